@@ -1,0 +1,3 @@
+// There is no slot left for one more record.
+#[derive(Clone, Copy, Debug, PartialEq, Eq)]
+pub struct ListFull;

@@ -11,6 +11,7 @@ use Rattle.std.specs.declared.result.Result.the-variants.{Ok, Err}
 use Rattle.std.proofs.shelf.Lists.{take-more-set, length-take-le}
 use Rattle.std.proofs.shelf.Tests.{cond-true, cond-false, lt-ltb, le-ltb}
 use Rattle.sheet.specs.declared.fault.SheetCause.the-variants.{NoSlotLeft}
+use Rattle.sheet.specs.declared.stage.Stage.the-variants.{Blocks}
 use Rattle.sheet.specs.declared.draft.Draft.{Draft}
 use Rattle.sheet.specs.Reading.{SoFar, Took, kept, refused, housed, tookDisk, tookRequest}
 use Rattle.sheet.specs.Drafts.{soFar, answered, left}
@@ -31,7 +32,7 @@ module _ (h : ℕ) (s : SoFar) (few : length (s .homes) < 1024) (there : h < s .
   pub disk-answer : Ok tt ≡ answered (tookDisk h s)
   disk-answer = sym (ap answered (took-disk h s few there))
 
-  pub disk-after : (homes : List ℕ) → homes ≡ s .homes ++ h ∷ [] → _≡_ {A = SoFar} (record { stage = s .stage; name = s .name; disks = s .disks; frames = s .frames; fetch = s .fetch; homes = homes; slots = s .slots; count = s .count }) (left s (tookDisk h s))
+  pub disk-after : (homes : List ℕ) → homes ≡ s .homes ++ h ∷ [] → _≡_ {A = SoFar} (record { stage = Blocks; name = s .name; disks = s .disks; frames = s .frames; fetch = s .fetch; homes = homes; slots = s .slots; count = s .count }) (left s (tookDisk h s))
   disk-after homes e = rw e (sym (ap (left s) (took-disk h s few there)))
 
 -- a refused request leaves everything as it was

@@ -1,4 +1,7 @@
 pub mod Commands
 pub mod Drafts
+pub mod Exact
+pub mod Headers
 pub mod Numbers
 pub mod Reading
+pub mod Sheets

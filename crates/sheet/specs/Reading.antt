@@ -47,7 +47,7 @@ abbrev pub geared : ℕ → ℕ → ℕ → SoFar → SoFar
 geared d k f s = record { stage = Blocks; name = s .name; disks = d; frames = k; fetch = f; homes = s .homes; slots = s .slots; count = s .count }
 
 abbrev pub housed : ℕ → SoFar → SoFar
-housed h s = record { stage = s .stage; name = s .name; disks = s .disks; frames = s .frames; fetch = s .fetch; homes = s .homes ++ h ∷ []; slots = s .slots; count = s .count }
+housed h s = record { stage = Blocks; name = s .name; disks = s .disks; frames = s .frames; fetch = s .fetch; homes = s .homes ++ h ∷ []; slots = s .slots; count = s .count }
 
 abbrev pub asked : ℕ → SoFar → SoFar
 asked b s = record { stage = Requests; name = s .name; disks = s .disks; frames = s .frames; fetch = s .fetch; homes = s .homes; slots = set (s .slots) (s .count) b; count = s .count + 1 }

@@ -2,11 +2,18 @@
 mod command;
 mod draft;
 mod fault;
+mod header;
+mod keeping;
 mod rack;
+mod reader;
+mod reading;
 mod stage;
 mod step;
 mod taking;
+mod view;
 
 pub use fault::SheetCause;
 pub use fault::SheetFault;
 pub use rack::Rack;
+pub use reader::SheetReader;
+pub use view::Sheet;

@@ -79,6 +79,7 @@ impl Draft {
         if disk >= self.disks {
             return Err(SheetCause::NotThere);
         }
+        self.stage = Stage::Blocks;
         self.homes[self.blocks] = disk;
         self.blocks += 1;
         Ok(())

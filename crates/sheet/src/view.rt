@@ -1,0 +1,15 @@
+ghost use Prim.Native.Nat.{ℕ, _<_, _≤_};
+ghost use lib.ListN.{length, getD};
+ghost use denote.Ref.{now};
+use crate::rack::Rack;
+
+// A sheet that was read. The requests lie in the caller's slots; a turned sheet reads the same slots from the far end.
+#[derive(Clone, Copy)]
+pub struct Sheet<'a> {
+    pub(crate) name: &'a [u8],
+    pub(crate) rack: &'a Rack,
+    pub(crate) requests: &'a [u16],
+    pub(crate) turned: bool,
+    ghost few_requests: { length (now requests) ≤ 4096 },
+    ghost known: { (i : ℕ) → i < length (now requests) → getD (now requests) i 0 < now rack .blocks },
+}

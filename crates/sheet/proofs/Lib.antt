@@ -1,7 +1,9 @@
 pub mod Accepts
 pub mod Exactly
 pub mod Fronts
+pub mod Kept
 pub mod Only
 pub mod Runs
 pub mod Taken
+pub mod Turned
 pub mod Turns

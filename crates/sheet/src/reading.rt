@@ -2,7 +2,9 @@
 ghost use mathlib.Core.Path.{_≡_};
 ghost use mathlib.Core.List.{List as ListOf, []};
 ghost use Prim.Native.Nat.{ℕ, _≤_};
+ghost use lib.ListN.{length};
 ghost use denote.Ref.{name};
+ghost use Rattle.std.specs.Vec.{made};
 ghost use Rattle.model.specs.Sheet.{RackFits};
 ghost use Rattle.sheet.specs.Drafts.{soFar};
 ghost use Rattle.sheet.specs.Headers.{sheetOf, outcomeOf};
@@ -26,7 +28,8 @@ impl Draft {
     // What a whole sheet said.
     fn header(&self, requests: usize) -> Header
         requires { ⌜ RackFits (rackSaid (soFar (now self) 0 [])) ⌝ ∗ ⌜ requests ≤ 4096 ⌝ }
-        ensures { λ h. ⌜ ((slots : ListOf ℕ) → sheetOf h slots ≡ sheetSaid (soFar (now (self .entry)) requests slots)) ⌝ }
+        ensures sheet { λ h. ⌜ ((slots : ListOf ℕ) → sheetOf h slots ≡ sheetSaid (soFar (now (self .entry)) requests slots)) ⌝ }
+        ensures requests { λ h. ⌜ h .requests ≡ requests ⌝ }
     {
         let name = self.name;
         let homes = self.homes;
@@ -39,6 +42,7 @@ impl Draft {
 fn read_commands(bytes: &[u8], list: &mut List<u16>) -> Result<Header, SheetFault>
     requires { ⌜ now list .len ≡ 0 ⌝ }
     ensures outcome { λ r. ⌜ outcomeOf r (now (now (list .exit) .slots)) ≡ reading (now (bytes .entry)) (now (now (list .entry) .slots)) ⌝ }
+    ensures room { λ r. ⌜ made r (λ h. h .requests ≤ length (now (now (list .exit) .slots))) ⌝ }
     ensures lent { λ _. ⌜ name (now (list .exit) .slots) ≡ name (now (list .entry) .slots) ⌝ }
 {
     let total = bytes.len();
@@ -52,7 +56,8 @@ fn read_commands(bytes: &[u8], list: &mut List<u16>) -> Result<Header, SheetFaul
 
 // Reads a sheet's bytes. The requests go into the caller's slots, from the first one on.
 pub(crate) fn read_sheet(bytes: &[u8], slots: &mut [u16]) -> Result<Header, SheetFault>
-    ensures { λ r. ⌜ outcomeOf r (now (slots .exit)) ≡ reading (now (bytes .entry)) (now (slots .entry)) ⌝ }
+    ensures outcome { λ r. ⌜ outcomeOf r (now (slots .exit)) ≡ reading (now (bytes .entry)) (now (slots .entry)) ⌝ }
+    ensures room { λ r. ⌜ made r (λ h. h .requests ≤ length (now (slots .exit))) ⌝ }
 {
     let mut list = List::new(slots);
     read_commands(bytes, &mut list)

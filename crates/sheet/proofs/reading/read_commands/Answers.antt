@@ -53,8 +53,8 @@ returns c =
     let l = c .loop-rest .list in
     let s = soFar (c .loop-rest .draft) (l .len) (l .slots .now) in
     let done = leads-to-end (length (c .args .bytes .now)) (c .loop-rest .rest .now) s _ (sym (c .loop-rest-test .ensures tt (l .len) (l .slots .now))) (c .loop-rest .inv .2) in
-    let said = λ (xs : List ℕ). c .header .ensures xs ∙ ap (λ n. sheetSaid (soFar (c .loop-rest .draft) n xs)) (c .len .ensures) in
-    record { outcome = answer-ok (c .header .result) (c .loop-rest .draft) (l .len) (l .slots .now) (l .slots .now) _ refl said done; lent = c .loop-rest .inv .1 }
+    let said = λ (xs : List ℕ). c .header .ensures .sheet xs ∙ ap (λ n. sheetSaid (soFar (c .loop-rest .draft) n xs)) (c .len .ensures) in
+    record { outcome = answer-ok (c .header .result) (c .loop-rest .draft) (l .len) (l .slots .now) (l .slots .now) _ refl said done; room = omega (arith, c .header .ensures .requests, c .len .ensures, l .fits); lent = c .loop-rest .inv .1 }
 
 pub returns-in-Break-rest : need.returns-in-Break-rest
 returns-in-Break-rest c =
@@ -69,5 +69,6 @@ returns-in-Break-rest c =
     let kept = ap (λ (t : SoFar). t .slots) (c .step .ensures .after ∙ ap (turnLeft s) stop) in
     record {
       outcome = answer-err _ f _ (l .slots .now) _ _ (residual .1) (residual .2) kept (leads-to-stop total rest s _ f incomplete stop (c .loop-rest .inv .2));
+      room = rw (residual .1) tt;
       lent = c .step .ensures .lent ∙ c .loop-rest .inv .1;
     }

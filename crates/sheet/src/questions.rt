@@ -1,0 +1,94 @@
+// What a sheet and its rack tell.
+ghost use mathlib.Core.Path.{_≡_};
+ghost use lib.ListN.{length};
+ghost use Rattle.std.specs.Finite.{nth};
+ghost use Rattle.model.specs.Sheet.{turned};
+ghost use Rattle.sheet.specs.Headers.{rackOf};
+ghost use Rattle.sheet.specs.Sheets.{meant};
+use crate::rack::Rack;
+use crate::view::Sheet;
+
+impl Rack {
+    // How many disks there are.
+    pub fn disks(&self) -> u8
+        ensures { λ r. ⌜ r ≡ rackOf (now (self .entry)) .disks ⌝ }
+    {
+        self.disks
+    }
+
+    // How many frames there are.
+    pub fn frames(&self) -> u8
+        ensures { λ r. ⌜ r ≡ rackOf (now (self .entry)) .frames ⌝ }
+    {
+        self.frames
+    }
+
+    // How many steps a fetch takes.
+    pub fn fetch(&self) -> u8
+        ensures { λ r. ⌜ r ≡ rackOf (now (self .entry)) .fetch ⌝ }
+    {
+        self.fetch
+    }
+
+    // How many blocks there are.
+    pub fn blocks(&self) -> usize
+        ensures { λ r. ⌜ r ≡ length (rackOf (now (self .entry)) .homes) ⌝ }
+    {
+        self.blocks
+    }
+
+    // The disk of a block, if there is such a block.
+    pub fn disk_of(&self, block: u16) -> Option<u8>
+        ensures { λ r. ⌜ r ≡ nth (rackOf (now (self .entry)) .homes) block ⌝ }
+    {
+        let block = usize::from(block);
+        if block < self.blocks { Some(self.homes[block]) } else { None }
+    }
+}
+
+impl<'a> Sheet<'a> {
+    // The sixteen bytes of the name.
+    pub fn name(&self) -> &'a [u8]
+        ensures { λ r. ⌜ now r ≡ meant (now (self .entry)) .name ⌝ }
+    {
+        self.name
+    }
+
+    // The rack that the sheet is read from.
+    pub fn rack(&self) -> &'a Rack
+        ensures { λ r. ⌜ rackOf (now r) ≡ meant (now (self .entry)) .rack ⌝ }
+    {
+        self.rack
+    }
+
+    // How many requests there are.
+    pub fn len(&self) -> usize
+        ensures { λ r. ⌜ r ≡ length (meant (now (self .entry)) .requests) ⌝ }
+    {
+        self.requests.len()
+    }
+
+    // The block that is requested at a position, counted from 0 in this sheet's own order.
+    pub fn request(&self, position: usize) -> Option<u16>
+        ensures { λ r. ⌜ r ≡ nth (meant (now (self .entry)) .requests) position ⌝ }
+    {
+        let len = self.requests.len();
+        if position >= len {
+            return None;
+        }
+        if self.turned {
+            Some(self.requests[len - 1 - position])
+        } else {
+            Some(self.requests[position])
+        }
+    }
+
+    // The turned sheet: the same requests, in the same slots, from the far end.
+    pub fn turned(&self) -> Sheet<'a>
+        ensures turned { λ r. ⌜ meant r ≡ turned (meant (now (self .entry))) ⌝ }
+        ensures back { λ r. ⌜ turned (meant r) ≡ meant (now (self .entry)) ⌝ }
+        ensures same { λ r. ⌜ r .requests ≡ now (self .entry) .requests ⌝ }
+    {
+        Sheet { name: self.name, rack: self.rack, requests: self.requests, turned: !self.turned }
+    }
+}

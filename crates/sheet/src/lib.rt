@@ -14,7 +14,11 @@ mod taking;
 mod view;
 
 pub use fault::SheetCause;
+pub use fault::SheetCauseDebug;
+pub use fault::SheetCauseEq;
+pub use fault::SheetCausePartialEq;
 pub use fault::SheetFault;
+pub use fault::SheetFaultDisplay;
 pub use rack::Rack;
 pub use result::SheetReading;
 pub use view::Sheet;

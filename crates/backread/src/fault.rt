@@ -23,7 +23,11 @@ impl Fault {
         ensures { λ r. ⌜ r ≡ told (now (self .entry)) ⌝ }
     {
         match *self {
-            Fault::Sheet(cause, place) => Refusal { number: cause.number(), layer: Layer::Sheet, place },
+            Fault::Sheet(cause, place) => Refusal {
+                number: cause.number(),
+                layer: Layer::Sheet,
+                place,
+            },
         }
     }
 }

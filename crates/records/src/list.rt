@@ -5,6 +5,7 @@ ghost use denote.Ref.{now, name};
 ghost use Rattle.std.specs.Finite.{nth};
 ghost use Rattle.records.specs.Records.{held, pushed, lengthAfter};
 use crate::full::ListFull;
+use crate::held::held_at;
 
 // The first `len` slots are the list; the others keep what the caller left in them.
 #[derive(Drop)]
@@ -28,7 +29,7 @@ impl<'a, T> List<'a, T> {
     pub fn len(&self) -> usize
         ensures { λ r. ⌜ r ≡ now (self .entry) .len ⌝ }
     {
-        self.len
+        self.len // the slots past these are the caller's own
     }
 }
 
@@ -52,6 +53,6 @@ impl<T: Copy> List<'_, T> {
     pub fn get(&self, at: usize) -> Option<T>
         ensures { λ r. ⌜ r ≡ nth (held (now (self .entry) .len) (now (now (self .entry) .slots))) at ⌝ }
     {
-        if at < self.len { self.slots.get(at).copied() } else { None }
+        held_at(self.slots, self.len, at)
     }
 }

@@ -28,7 +28,10 @@ fn report(rt: &LibcRuntime, sheet: Sheet) -> io::Result<()> {
     let fetch = rack.fetch();
     let blocks = rack.blocks();
     let requests = sheet.len();
-    println!(rt, "\ndisks {disks}\nframes {frames}\nfetch {fetch}\nblocks {blocks}\nrequests {requests}")
+    println!(
+        rt,
+        "\ndisks {disks}\nframes {frames}\nfetch {fetch}\nblocks {blocks}\nrequests {requests}"
+    )
 }
 
 // Tells of the sheet, or of the refusal; whether the sheet was accepted.

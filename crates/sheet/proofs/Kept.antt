@@ -21,9 +21,9 @@ blank-fits : Fits blankSheet
 blank-fits = record {
   name = refl;
   letters = λ i. ⊎-elim
-    (λ (l : i < 16). let p = getD-replicate {A = ℕ} 16 i 32 0 l in rw p (omega arith))
-    (λ (l : 16 ≤ i). let p = getD-past {X = ℕ} (replicate 16 32) i 0 l in rw p (omega arith))
-    (cases-lt i 16);
+      (λ (l : i < 16). let p = getD-replicate {A = ℕ} 16 i 32 0 l in rw p (omega arith))
+      (λ (l : 16 ≤ i). let p = getD-past {X = ℕ} (replicate 16 32) i 0 l in rw p (omega arith))
+      (cases-lt i 16);
   rack = record {
     disks = omega arith;
     frames = omega arith;

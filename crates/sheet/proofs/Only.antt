@@ -171,9 +171,9 @@ module _ (slots : List ℕ) (s : SoFar) (rest : List ℕ) (h : Sound slots s) (s
           known = λ i m. absurd (omega (arith, g .2));
           blocks = simp length-append (omega arith);
           homes = λ k m. ⊎-elim
-            (λ (same : k ≡ length hs). let p = getD-push hs b 0 k (sym same) in rw p there)
-            (λ (other : k ≡ length hs → ⊥). let long = length-append hs (b ∷ []) in let m' : k < length hs = omega arith in let p = getD-append-left hs (b ∷ []) 0 k m' in rw p (h .homes k m'))
-            (cases-eq k (length hs));
+              (λ (same : k ≡ length hs). let p = getD-push hs b 0 k (sym same) in rw p there)
+              (λ (other : k ≡ length hs → ⊥). let long = length-append hs (b ∷ []) in let m' : k < length hs = omega arith in let p = getD-append-left hs (b ∷ []) 0 k m' in rw p (h .homes k m'))
+              (cases-eq k (length hs));
           stage = (g .0, g .1, g .2);
         };
         same =
@@ -199,9 +199,9 @@ module _ (slots : List ℕ) (s : SoFar) (rest : List ℕ) (h : Sound slots s) (s
           inside = rw (length-set (s .slots) (s .count) b) (omega arith);
           few = omega arith;
           known = λ i m. ⊎-elim
-            (λ (same : i ≡ s .count). let p = getD-set-same (s .slots) (s .count) b 0 room in rw (same, p) there)
-            (λ (other : i ≡ s .count → ⊥). let p = getD-set-other (s .slots) (s .count) i b 0 other in rw p (h .known i (omega arith)))
-            (cases-eq i (s .count));
+              (λ (same : i ≡ s .count). let p = getD-set-same (s .slots) (s .count) b 0 room in rw (same, p) there)
+              (λ (other : i ≡ s .count → ⊥). let p = getD-set-other (s .slots) (s .count) i b 0 other in rw p (h .known i (omega arith)))
+              (cases-eq i (s .count));
           blocks = h .blocks;
           homes = h .homes;
           stage = (titled, gear, enough);
@@ -267,20 +267,20 @@ module _ (total place : ℕ) (slots : List ℕ) (s : SoFar) (rest : List ℕ) (h
       let k = getD rest 2 0 in
       let f = getD rest 3 0 in
       at-front Geometry _ (by-G rest e) (on-front Geometry 4 _ _ (λ l.
-        cond-both (withinLimits d k f) (kept (geared d k f s)) (refused OutsideLimits) (taking Geometry (drop 4 rest))
-        (λ w. next-geometry slots s rest h small d k f (shape₄ rest l ∙ ap (λ (c : ℕ). c ∷ d ∷ k ∷ f ∷ drop 4 rest) e) l w g)
-        (λ w. tt)))
+      cond-both (withinLimits d k f) (kept (geared d k f s)) (refused OutsideLimits) (taking Geometry (drop 4 rest))
+      (λ w. next-geometry slots s rest h small d k f (shape₄ rest l ∙ ap (λ (c : ℕ). c ∷ d ∷ k ∷ f ∷ drop 4 rest) e) l w g)
+      (λ w. tt)))
 
   on-disk : getD rest 0 0 ≡ 68 → AtStage Blocks s → Good slots Blocks s rest (afterParsing total place s (frontOf rest))
   unfolding taking
   on-disk e g =
       let b = getD rest 1 0 in
       at-front Blocks _ (by-D rest e) (on-front Blocks 2 _ _ (λ l.
-        cond-both (ltb (length (s .homes)) 1024) _ (refused TooMany) (taking Blocks (drop 2 rest))
-        (λ few. cond-both (ltb b (s .disks)) (kept (housed b s)) (refused NotThere) (taking Blocks (drop 2 rest))
-          (λ there. next-disk slots s rest h small b (shape₂ rest l ∙ ap (λ (c : ℕ). c ∷ b ∷ drop 2 rest) e) l (ltb-true _ _ few) (ltb-true _ _ there) g)
-          (λ there. tt))
-        (λ few. tt)))
+      cond-both (ltb (length (s .homes)) 1024) _ (refused TooMany) (taking Blocks (drop 2 rest))
+      (λ few. cond-both (ltb b (s .disks)) (kept (housed b s)) (refused NotThere) (taking Blocks (drop 2 rest))
+      (λ there. next-disk slots s rest h small b (shape₂ rest l ∙ ap (λ (c : ℕ). c ∷ b ∷ drop 2 rest) e) l (ltb-true _ _ few) (ltb-true _ _ there) g)
+      (λ there. tt))
+      (λ few. tt)))
 
   on-request : (g : Stage) → getD rest 0 0 ≡ 82 → Titled s → Geared s → bytesSaid g (sheetSaid s) ≡ bytesSaid Requests (sheetSaid s) → Good slots g s rest (afterParsing total place s (frontOf rest))
   unfolding taking
@@ -293,22 +293,22 @@ module _ (total place : ℕ) (slots : List ℕ) (s : SoFar) (rest : List ℕ) (h
       let high-is : high ≡ b / 256 = omega arith in
       let P = taking g (drop 3 rest) in
       at-front g _ (by-R rest e) (on-front g 3 _ _ (λ l.
-        cond-both (ltb (length (s .homes)) (s .frames)) (refused TooFewBlocks) _ P (λ enough. tt) (λ enough.
-          cond-both (ltb (s .count) 4096) _ (refused TooMany) P (λ few.
-            cond-both (ltb b (length (s .homes))) _ (refused NotThere) P (λ there.
-              cond-both (ltb (s .count) (length (s .slots))) (kept (asked b s)) (refused NoSlotLeft) P
-              (λ room. next-request slots s rest h small g b (shape₃ rest l ∙ (λ i. e i ∷ low-is i ∷ high-is i ∷ drop 3 rest)) l (ltb-true _ _ few) (ltb-true _ _ there) (ltb-true _ _ room) titled gear (ltb-false _ _ enough) body)
-              (λ room. tt))
-            (λ there. tt))
-          (λ few. tt))))
+      cond-both (ltb (length (s .homes)) (s .frames)) (refused TooFewBlocks) _ P (λ enough. tt) (λ enough.
+      cond-both (ltb (s .count) 4096) _ (refused TooMany) P (λ few.
+      cond-both (ltb b (length (s .homes))) _ (refused NotThere) P (λ there.
+      cond-both (ltb (s .count) (length (s .slots))) (kept (asked b s)) (refused NoSlotLeft) P
+      (λ room. next-request slots s rest h small g b (shape₃ rest l ∙ (λ i. e i ∷ low-is i ∷ high-is i ∷ drop 3 rest)) l (ltb-true _ _ few) (ltb-true _ _ there) (ltb-true _ _ room) titled gear (ltb-false _ _ enough) body)
+      (λ room. tt))
+      (λ there. tt))
+      (λ few. tt))))
 
   on-end : (g : Stage) → getD rest 0 0 ≡ 69 → Titled s → Geared s → bytesSaid g (sheetSaid s) ≡ bytesSaid Requests (sheetSaid s) → Good slots g s rest (afterParsing total place s (frontOf rest))
   unfolding taking
   on-end g e titled gear body =
       at-front g _ (by-E rest e) (on-front g 1 _ _ (λ l.
-        cond-both (ltb (length (s .homes)) (s .frames)) (refused TooFewBlocks) (kept (ended s)) (taking g (drop 1 rest))
-        (λ enough. tt)
-        (λ enough. next-end slots s rest h small g (shape₁ rest l ∙ ap (λ (c : ℕ). c ∷ drop 1 rest) e) l titled gear (ltb-false _ _ enough) body)))
+      cond-both (ltb (length (s .homes)) (s .frames)) (refused TooFewBlocks) (kept (ended s)) (taking g (drop 1 rest))
+      (λ enough. tt)
+      (λ enough. next-end slots s rest h small g (shape₁ rest l ∙ ap (λ (c : ℕ). c ∷ drop 1 rest) e) l titled gear (ltb-false _ _ enough) body)))
 
   by-stage : (g : Stage) → AtStage g s → Good slots g s rest (cond (takes g (getD rest 0 0)) (afterParsing total place s (frontOf rest)) (stops (fault OutOfPlace place)))
   by-stage Name a = cond-both _ _ _ (Good slots Name s rest) (λ e. on-name (eqb-true _ 78 e) a) (λ e. tt)
@@ -370,7 +370,7 @@ module _ (bytes slots : List ℕ) where
       let empty : rest ≡ [] = nil-from-length rest (eqb-true (length rest) 0 (parts .1)) in
       let a = at-end (s .stage) s (parts .0) (h .stage) in
       let all : sheetBytes (sheetSaid s) ≡ bytes =
-          sym (append-nil (sheetBytes (sheetSaid s))) ∙ ap (λ (xs : List ℕ). xs ++ []) (sym (a .1)) ∙ ap (λ (xs : List ℕ). bytesSaid (s .stage) (sheetSaid s) ++ xs) (sym empty) ∙ same in
+      sym (append-nil (sheetBytes (sheetSaid s))) ∙ ap (λ (xs : List ℕ). xs ++ []) (sym (a .1)) ∙ ap (λ (xs : List ℕ). bytesSaid (s .stage) (sheetSaid s) ++ xs) (sym empty) ∙ same in
       let room : length (take (s .count) (s .slots)) ≤ length slots = rw (length-take-le (s .count) (s .slots) (h .inside)) (omega (arith, h .room, h .inside)) in
       (fits-at-end slots s h (a .0), all, room, written slots s h)
 
@@ -383,7 +383,7 @@ module _ (bytes slots : List ℕ) where
   tells (suc n) s rest h same small l =
       let total = length bytes in
       let go : (u : Turn) → turn total rest s ≡ u → Good slots (s .stage) s rest u → Tells bytes slots (onward (λ r t. run n total r t) s u) =
-          elim [ goesOn t r ↦ λ e g. tells n t r (g .sound) (g .same ∙ same) (g .small) (omega (arith, g .fewer)) | stops f ↦ λ e g. stopped s rest f h same e ] in
+      elim [ goesOn t r ↦ λ e g. tells n t r (g .sound) (g .same ∙ same) (g .small) (omega (arith, g .fewer)) | stops f ↦ λ e g. stopped s rest f h same e ] in
       cond-both (complete rest s) (record { verdict = fit (sheetSaid s); slots = s .slots }) (onward (λ r t. run n total r t) s (turn total rest s)) (Tells bytes slots)
       (λ e. ends s rest h same e)
       (λ e. go (turn total rest s) refl (turn-good total slots s rest h small))

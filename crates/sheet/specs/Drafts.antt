@@ -13,15 +13,15 @@ use Rattle.sheet.specs.Reading.{SoFar, Took, kept, refused, fault}
 -- a draft, with the length and the slots of the caller's list
 abbrev pub soFar : Draft → ℕ → List ℕ → SoFar
 soFar d count slots = record {
-    stage = d .stage;
-    name = d .name;
-    disks = d .disks;
-    frames = d .frames;
-    fetch = d .fetch;
-    homes = take (d .blocks) (d .homes);
-    slots = slots;
-    count = count;
-  }
+  stage = d .stage;
+  name = d .name;
+  disks = d .disks;
+  frames = d .frames;
+  fetch = d .fetch;
+  homes = take (d .blocks) (d .homes);
+  slots = slots;
+  count = count;
+}
 
 abbrev pub answered : Took → Result (Unit {0}) SheetCause
 answered (kept s) = Ok tt

@@ -74,10 +74,10 @@ abbrev pub tookRequest : ℕ → SoFar → Took
 tookRequest b s =
     cond (ltb (length (s .homes)) (s .frames)) (refused TooFewBlocks)
     (cond (ltb (s .count) 4096)
-      (cond (ltb b (length (s .homes)))
-        (cond (ltb (s .count) (length (s .slots))) (kept (asked b s)) (refused NoSlotLeft))
-        (refused NotThere))
-      (refused TooMany))
+    (cond (ltb b (length (s .homes)))
+    (cond (ltb (s .count) (length (s .slots))) (kept (asked b s)) (refused NoSlotLeft))
+    (refused NotThere))
+    (refused TooMany))
 
 abbrev pub tookEnd : SoFar → Took
 tookEnd s = cond (ltb (length (s .homes)) (s .frames)) (refused TooFewBlocks) (kept (ended s))

@@ -1,6 +1,5 @@
 -- What a reading of a sheet, and a sheet that it lends, mean. Assumes nothing.
-use mathlib.Core.Bool.{Bool, cond}
-use mathlib.Core.List.{List, [], _∷_, reverse}
+use mathlib.Core.List.{List, [], _∷_}
 use Prim.Native.Nat.{ℕ}
 use lib.ListN.{replicate}
 use Rattle.std.specs.declared.option.Option.{Option}
@@ -12,6 +11,7 @@ use Rattle.sheet.specs.declared.fault.SheetFault.{SheetFault}
 use Rattle.sheet.specs.declared.result.SheetReading.{SheetReading}
 use Rattle.sheet.specs.declared.view.Sheet.{Sheet}
 use Rattle.sheet.specs.Headers.{rackOf, sheetOf}
+use Rattle.sheet.specs.Orders.{inOrder}
 use Rattle.sheet.specs.Reading.{Verdict, fit, unfit}
 
 -- the sheet of a reading
@@ -35,9 +35,6 @@ abbrev pub sheetAfter : Verdict → subject.Sheet
 sheetAfter (fit s) = s
 sheetAfter (unfit f) = blankSheet
 
--- requests in a sheet's own order: a turned sheet has them in reverse
-abbrev pub inOrder : Bool → List ℕ → List ℕ
-inOrder turned requests = cond turned (reverse requests) requests
-
+-- a sheet that is lent
 abbrev pub meant : Sheet → subject.Sheet
-meant s = record { name = s .name .now; rack = rackOf (s .rack .now); requests = inOrder (s .turned) (s .requests .now) }
+meant s = record { name = s .name .now; rack = rackOf (s .rack .now); requests = inOrder (s .requests) }

@@ -69,7 +69,11 @@ fn front_geometry(bytes: &[u8]) -> Option<(Command<'_>, &[u8])>
 {
     match bytes {
         [_letter, disks, frames, fetch, rest @ ..] => {
-            let geometry = Geometry { disks: *disks, frames: *frames, fetch: *fetch };
+            let geometry = Geometry {
+                disks: *disks,
+                frames: *frames,
+                fetch: *fetch,
+            };
             Some((Command::Geometry(geometry), rest))
         }
         _ => None,

@@ -58,7 +58,11 @@ impl SheetFault {
         ensures { λ r. ⌜ r ≡ refusalOf (now (self .entry)) ⌝ }
     {
         let cause = self.cause;
-        Refusal { number: cause.number(), layer: Layer::Sheet, place: self.place }
+        Refusal {
+            number: cause.number(),
+            layer: Layer::Sheet,
+            place: self.place,
+        }
     }
 }
 
@@ -66,7 +70,7 @@ pub impl From<ListFull> for SheetCause as SheetCauseFromList {
     ghost converts = { λ _ r. r ≡ NoSlotLeft };
 
     fn from(_full: ListFull) -> SheetCause {
-        SheetCause::NoSlotLeft
+        Self::NoSlotLeft
     }
 }
 

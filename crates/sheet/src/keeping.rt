@@ -12,6 +12,7 @@ use crate::fault::SheetFault;
 use crate::header::Header;
 use crate::rack::Rack;
 use crate::reading::read_sheet;
+use crate::requests::Requests;
 use crate::result::SheetReading;
 use crate::view::Sheet;
 
@@ -21,7 +22,13 @@ impl Rack {
         ensures { λ r. ⌜ rackOf r ≡ blankSheet .rack ⌝ }
     {
         let homes = [0u8; 1024];
-        Rack { disks: 1, frames: 1, fetch: 1, blocks: 1, homes }
+        Rack {
+            disks: 1,
+            frames: 1,
+            fetch: 1,
+            blocks: 1,
+            homes,
+        }
     }
 }
 
@@ -32,7 +39,11 @@ impl Header {
         ensures requests { λ h. ⌜ h .requests ≡ 0 ⌝ }
     {
         let name = [b' '; 16];
-        Header { name, rack: Rack::smallest(), requests: 0 }
+        Header {
+            name,
+            rack: Rack::smallest(),
+            requests: 0,
+        }
     }
 }
 
@@ -49,6 +60,22 @@ fn settled(answer: Result<Header, SheetFault>) -> (Header, Option<SheetFault>)
 }
 
 impl<'a> SheetReading<'a> {
+    fn settle(bytes: &[u8], slots: &'a mut [u16]) -> Self
+        ensures fault { λ r. ⌜ r .fault ≡ faultIn (reading (now (bytes .entry)) (now (slots .entry)) .verdict) ⌝ }
+        ensures sheet { λ r. ⌜ keptSheet r ≡ sheetAfter (reading (now (bytes .entry)) (now (slots .entry)) .verdict) ⌝ }
+        ensures slots { λ r. ⌜ now (r .slots) ≡ reading (now (bytes .entry)) (now (slots .entry)) .slots ⌝ }
+        ensures lent { λ r. ⌜ name (r .slots) ≡ name (slots .entry) ⌝ }
+        ensures exact { λ _. ⌜ ReadsExactly (now (bytes .entry)) (now (slots .entry)) ⌝ }
+        ensures one { λ _. ⌜ OneSheet ⌝ }
+    {
+        let (header, fault) = settled(read_sheet(bytes, slots));
+        SheetReading {
+            slots,
+            header,
+            fault,
+        }
+    }
+
     // Reads a sheet's bytes. The requests go into the slots, from the first one on; no other slot is changed.
     pub fn new(bytes: &[u8], slots: &'a mut [u16]) -> Self
         ensures fault { λ r. ⌜ r .fault ≡ faultIn (reading (now (bytes .entry)) (now (slots .entry)) .verdict) ⌝ }
@@ -58,8 +85,7 @@ impl<'a> SheetReading<'a> {
         ensures exact { λ _. ⌜ ReadsExactly (now (bytes .entry)) (now (slots .entry)) ⌝ }
         ensures one { λ _. ⌜ OneSheet ⌝ }
     {
-        let (header, fault) = settled(read_sheet(bytes, slots));
-        SheetReading { slots, header, fault }
+        Self::settle(bytes, slots)
     }
 
     // Whether the bytes were accepted, or why and where they were refused.
@@ -76,7 +102,14 @@ impl<'a> SheetReading<'a> {
     pub fn sheet(&self) -> Sheet<'_>
         ensures { λ r. ⌜ meant r ≡ keptSheet (now (self .entry)) ⌝ }
     {
-        let requests = &self.slots[0..self.header.requests];
-        Sheet { name: &self.header.name, rack: &self.header.rack, requests, turned: false }
+        let slots = &self.slots[0..self.header.requests];
+        Sheet {
+            name: &self.header.name,
+            rack: &self.header.rack,
+            requests: Requests {
+                slots,
+                turned: false,
+            },
+        }
     }
 }

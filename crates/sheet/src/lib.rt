@@ -7,6 +7,7 @@ mod keeping;
 mod questions;
 mod rack;
 mod reading;
+mod requests;
 mod result;
 mod stage;
 mod step;

@@ -34,15 +34,24 @@ impl Rack {
     pub fn blocks(&self) -> usize
         ensures { λ r. ⌜ r ≡ length (rackOf (now (self .entry)) .homes) ⌝ }
     {
-        self.blocks
+        self.blocks // what stands past these means nothing
+    }
+
+    fn home(&self, block: usize) -> Option<u8>
+        ensures { λ r. ⌜ r ≡ nth (rackOf (now (self .entry)) .homes) block ⌝ }
+    {
+        if block < self.blocks {
+            Some(self.homes[block])
+        } else {
+            None
+        }
     }
 
     // The disk of a block, if there is such a block.
     pub fn disk_of(&self, block: u16) -> Option<u8>
         ensures { λ r. ⌜ r ≡ nth (rackOf (now (self .entry)) .homes) block ⌝ }
     {
-        let block = usize::from(block);
-        if block < self.blocks { Some(self.homes[block]) } else { None }
+        self.home(usize::from(block))
     }
 }
 
@@ -51,7 +60,7 @@ impl<'a> Sheet<'a> {
     pub fn name(&self) -> &'a [u8]
         ensures { λ r. ⌜ now r ≡ meant (now (self .entry)) .name ⌝ }
     {
-        self.name
+        self.name // always sixteen bytes
     }
 
     // The rack that the sheet is read from.
@@ -72,23 +81,19 @@ impl<'a> Sheet<'a> {
     pub fn request(&self, position: usize) -> Option<u16>
         ensures { λ r. ⌜ r ≡ nth (meant (now (self .entry)) .requests) position ⌝ }
     {
-        let len = self.requests.len();
-        if position >= len {
-            return None;
-        }
-        if self.turned {
-            Some(self.requests[len - 1 - position])
-        } else {
-            Some(self.requests[position])
-        }
+        self.requests.at(position)
     }
 
     // The turned sheet: the same requests, in the same slots, from the far end.
     pub fn turned(&self) -> Sheet<'a>
         ensures turned { λ r. ⌜ meant r ≡ turned (meant (now (self .entry))) ⌝ }
         ensures back { λ r. ⌜ turned (meant r) ≡ meant (now (self .entry)) ⌝ }
-        ensures same { λ r. ⌜ r .requests ≡ now (self .entry) .requests ⌝ }
+        ensures same { λ r. ⌜ r .requests .slots ≡ now (self .entry) .requests .slots ⌝ }
     {
-        Sheet { name: self.name, rack: self.rack, requests: self.requests, turned: !self.turned }
+        Sheet {
+            name: self.name,
+            rack: self.rack,
+            requests: self.requests.turned(),
+        }
     }
 }

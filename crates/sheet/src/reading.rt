@@ -33,8 +33,18 @@ impl Draft {
     {
         let name = self.name;
         let homes = self.homes;
-        let rack = Rack { disks: self.disks, frames: self.frames, fetch: self.fetch, blocks: self.blocks, homes };
-        Header { name, rack, requests }
+        let rack = Rack {
+            disks: self.disks,
+            frames: self.frames,
+            fetch: self.fetch,
+            blocks: self.blocks,
+            homes,
+        };
+        Header {
+            name,
+            rack,
+            requests,
+        }
     }
 }
 

@@ -15,7 +15,12 @@ use records::List;
 
 impl Draft {
     // Judges and takes the command at the front of `rest`, what is left of `total` bytes. Answers what then is left.
-    pub(crate) fn step<'a>(&mut self, total: usize, rest: &'a [u8], list: &mut List<u16>) -> Result<&'a [u8], SheetFault>
+    pub(crate) fn step<'a>(
+        &mut self,
+        total: usize,
+        rest: &'a [u8],
+        list: &mut List<u16>,
+    ) -> Result<&'a [u8], SheetFault>
         requires { ⌜ length (now rest) ≤ total ⌝ }
         ensures answer { λ r. ⌜ stepped r ≡ turnAnswer (turn total (now (rest .entry)) (soFar (now (self .entry)) (now (list .entry) .len) (now (now (list .entry) .slots)))) ⌝ }
         ensures shorter { λ r. ⌜ Cases r (λ after. length (now after) < length (now (rest .entry))) (λ _. ⊥ → ⊥) ⌝ }
@@ -24,14 +29,23 @@ impl Draft {
     {
         let place = total - rest.len();
         let Some(letter) = rest.first() else {
-            return Err(SheetFault { cause: SheetCause::RanOut, place: total });
+            return Err(SheetFault {
+                cause: SheetCause::RanOut,
+                place: total,
+            });
         };
         let stage = self.stage;
         if !stage.takes(*letter) {
-            return Err(SheetFault { cause: SheetCause::OutOfPlace, place });
+            return Err(SheetFault {
+                cause: SheetCause::OutOfPlace,
+                place,
+            });
         }
         let Some((command, after)) = front(rest) else {
-            return Err(SheetFault { cause: SheetCause::RanOut, place: total });
+            return Err(SheetFault {
+                cause: SheetCause::RanOut,
+                place: total,
+            });
         };
         self.take_placed(Placed { command, place }, list)?;
         Ok(after)

@@ -18,6 +18,7 @@ use crate::stage::Stage;
 use records::List;
 
 const MOST_BLOCKS: usize = 1024;
+
 const MOST_REQUESTS: usize = 4096;
 
 impl Geometry {
@@ -41,7 +42,15 @@ impl Draft {
     {
         let name = [0u8; 16];
         let homes = [0u8; 1024];
-        Draft { stage: Stage::Name, name, disks: 0, frames: 0, fetch: 0, blocks: 0, homes }
+        Draft {
+            stage: Stage::Name,
+            name,
+            disks: 0,
+            frames: 0,
+            fetch: 0,
+            blocks: 0,
+            homes,
+        }
     }
 
     // `N`: the sixteen bytes are kept.
@@ -137,7 +146,11 @@ impl Draft {
     }
 
     // The same with the command's place, which a refusal tells.
-    pub(crate) fn take_placed(&mut self, placed: Placed, list: &mut List<u16>) -> Result<(), SheetFault>
+    pub(crate) fn take_placed(
+        &mut self,
+        placed: Placed,
+        list: &mut List<u16>,
+    ) -> Result<(), SheetFault>
         requires { ⌜ WholeName (said (placed .command)) ⌝ }
         ensures answer { λ r. ⌜ r ≡ placedAnswer (placed .entry .place) (took (said (placed .entry .command)) (soFar (now (self .entry)) (now (list .entry) .len) (now (now (list .entry) .slots)))) ⌝ }
         ensures after { λ _. ⌜ soFar (now (self .exit)) (now (list .exit) .len) (now (now (list .exit) .slots)) ≡ left (soFar (now (self .entry)) (now (list .entry) .len) (now (now (list .entry) .slots))) (took (said (placed .entry .command)) (soFar (now (self .entry)) (now (list .entry) .len) (now (now (list .entry) .slots)))) ⌝ }

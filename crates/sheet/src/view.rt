@@ -2,14 +2,14 @@ ghost use Prim.Native.Nat.{ℕ, _<_, _≤_};
 ghost use lib.ListN.{length, getD};
 ghost use denote.Ref.{now};
 use crate::rack::Rack;
+use crate::requests::Requests;
 
 // A sheet that was read. The requests lie in the caller's slots; a turned sheet reads the same slots from the far end.
 #[derive(Clone, Copy)]
 pub struct Sheet<'a> {
     pub(crate) name: &'a [u8],
     pub(crate) rack: &'a Rack,
-    pub(crate) requests: &'a [u16],
-    pub(crate) turned: bool,
-    ghost few_requests: { length (now requests) ≤ 4096 },
-    ghost known: { (i : ℕ) → i < length (now requests) → getD (now requests) i 0 < now rack .blocks },
+    pub(crate) requests: Requests<'a>,
+    ghost few_requests: { length (now (requests .slots)) ≤ 4096 },
+    ghost known: { (i : ℕ) → i < length (now (requests .slots)) → getD (now (requests .slots)) i 0 < now rack .blocks },
 }

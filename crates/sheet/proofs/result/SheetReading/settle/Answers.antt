@@ -7,7 +7,7 @@ use Rattle.sheet.specs.Reading.{Outcome}
 use Rattle.sheet.specs.Sheets.{faultIn, sheetAfter}
 use Rattle.sheet.proofs.Exactly.{exactly, one-sheet}
 use Rattle.sheet.proofs.Kept.{after-fits, known-in, same-slots}
-use Rattle.sheet.proofs.result.SheetReading.new.Needs as need
+use Rattle.sheet.proofs.result.SheetReading.settle.Needs as need
 
 pub ghost-result : need.ghost-result
 ghost-result c =

@@ -1,0 +1,5 @@
+use Rattle.sheet.proofs.Turned.{long}
+use Rattle.sheet.proofs.requests.Requests.len.Needs as need
+
+pub returns : need.returns
+returns c = long (c .args .self .now)

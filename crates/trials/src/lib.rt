@@ -1,0 +1,3 @@
+// Tests of the library, from the outside: tables of damaged sheets, and sheets at the limits.
+#[cfg(test)]
+mod sheets;

@@ -21,7 +21,7 @@ use Rattle.sheet.specs.Commands.{Said, name, geometry, disk, request, end, fro
 use Rattle.sheet.specs.Reading.{SoFar, takes, rackSaid, sheetSaid, named, geared, housed, asked, ended, withinLimits, Took, kept, refused, took, Turn, goesOn, stops, fault, afterTaking, afterParsing, turn, isNothing, complete, nothingYet, Verdict, fit, unfit, Outcome, onward, run, reading}
 use Rattle.sheet.proofs.Fronts.{by-N, by-G, by-D, by-R, by-E}
 use Rattle.sheet.specs.declared.fault.SheetFault.{SheetFault}
-use Rattle.sheet.specs.Exact.{bytesSaid, writtenOver, RefusedAt}
+use Rattle.sheet.specs.Exact.{bytesSaid, writtenOver, Reached, start, more, RefusedAt}
 
 -- numbers that are bytes
 abbrev pub Bytes : List ℕ → Type 0
@@ -374,24 +374,24 @@ module _ (bytes slots : List ℕ) where
       let room : length (take (s .count) (s .slots)) ≤ length slots = rw (length-take-le (s .count) (s .slots) (h .inside)) (omega (arith, h .room, h .inside)) in
       (fits-at-end slots s h (a .0), all, room, written slots s h)
 
-  stopped : (s : SoFar) (rest : List ℕ) (f : SheetFault) → Sound slots s → bytesSaid (s .stage) (sheetSaid s) ++ rest ≡ bytes → turn (length bytes) rest s ≡ stops f → RefusedAt bytes slots f (s .slots)
-  stopped s rest f h same e = record { sofar = s; rest = rest; before = same; next = e; stand = written slots s h }
+  stopped : (s : SoFar) (rest : List ℕ) (f : SheetFault) → Reached bytes slots s rest → Sound slots s → complete rest s ≡ false → bytesSaid (s .stage) (sheetSaid s) ++ rest ≡ bytes → turn (length bytes) rest s ≡ stops f → RefusedAt bytes slots f (s .slots)
+  stopped s rest f at h on same e = record { sofar = s; rest = rest; reached = at; before = same; goes-on = on; next = e; stand = written slots s h }
 
-  tells : (n : ℕ) (s : SoFar) (rest : List ℕ) → Sound slots s → bytesSaid (s .stage) (sheetSaid s) ++ rest ≡ bytes → Bytes rest → length rest < n → Tells bytes slots (run n (length bytes) rest s)
+  tells : (n : ℕ) (s : SoFar) (rest : List ℕ) → Reached bytes slots s rest → Sound slots s → bytesSaid (s .stage) (sheetSaid s) ++ rest ≡ bytes → Bytes rest → length rest < n → Tells bytes slots (run n (length bytes) rest s)
   unfolding run
-  tells zero s rest h same small l = absurd (omega arith)
-  tells (suc n) s rest h same small l =
+  tells zero s rest at h same small l = absurd (omega arith)
+  tells (suc n) s rest at h same small l =
       let total = length bytes in
-      let go : (u : Turn) → turn total rest s ≡ u → Good slots (s .stage) s rest u → Tells bytes slots (onward (λ r t. run n total r t) s u) =
-      elim [ goesOn t r ↦ λ e g. tells n t r (g .sound) (g .same ∙ same) (g .small) (omega (arith, g .fewer)) | stops f ↦ λ e g. stopped s rest f h same e ] in
+      let go : (u : Turn) → complete rest s ≡ false → turn total rest s ≡ u → Good slots (s .stage) s rest u → Tells bytes slots (onward (λ r t. run n total r t) s u) =
+      elim [ goesOn t r ↦ λ on e g. tells n t r (more at e) (g .sound) (g .same ∙ same) (g .small) (omega (arith, g .fewer)) | stops f ↦ λ on e g. stopped s rest f at h on same e ] in
       cond-both (complete rest s) (record { verdict = fit (sheetSaid s); slots = s .slots }) (onward (λ r t. run n total r t) s (turn total rest s)) (Tells bytes slots)
       (λ e. ends s rest h same e)
-      (λ e. go (turn total rest s) refl (turn-good total slots s rest h small))
+      (λ e. go (turn total rest s) e refl (turn-good total slots s rest h small))
 
 pub told : (bytes slots : List ℕ) → Bytes bytes → Told bytes slots (reading bytes slots .verdict) (reading bytes slots .slots)
 unfolding reading
 told bytes slots small =
-    tells bytes slots (suc (length bytes)) (nothingYet slots) bytes
+    tells bytes slots (suc (length bytes)) (nothingYet slots) bytes start
     (record {
       room = refl;
       later = refl;

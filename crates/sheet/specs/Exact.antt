@@ -1,5 +1,6 @@
 -- What reading a sheet comes to, in the subject's own words. Assumes nothing.
 use mathlib.Core.Path.{_≡_}
+use mathlib.Core.Bool.{false}
 use mathlib.Core.List.{List, [], _++_}
 use Prim.Native.Nat.{ℕ, _≤_}
 use lib.ListN.{length, drop}
@@ -8,7 +9,7 @@ use Rattle.model.specs.Sheet.{Sheet, Fits, sheetBytes, nameBytes, rackBytes, re
 use Rattle.sheet.specs.declared.fault.SheetFault.{SheetFault}
 use Rattle.sheet.specs.declared.stage.Stage.{Stage}
 use Rattle.sheet.specs.declared.stage.Stage.the-variants.{Name, Geometry, Blocks, Requests, Nothing}
-use Rattle.sheet.specs.Reading.{SoFar, sheetSaid, Turn, stops, turn, Verdict, fit, unfit, reading}
+use Rattle.sheet.specs.Reading.{SoFar, nothingYet, sheetSaid, complete, Turn, goesOn, stops, turn, Verdict, fit, unfit, reading}
 
 -- the bytes of the commands so far
 abbrev pub bytesSaid : Stage → Sheet → List ℕ
@@ -22,12 +23,19 @@ bytesSaid Nothing s = sheetBytes s
 abbrev pub writtenOver : List ℕ → List ℕ → List ℕ
 writtenOver records slots = records ++ drop (length records) slots
 
--- a refusal: the commands before the place were taken, their requests stand in the slots and no other slot is changed,
--- and the command that follows them is refused
+-- where reading these bytes into these slots comes: what the commands so far have said, and the bytes left
+pub data Reached (bytes slots : List ℕ) : SoFar → List ℕ → Type 0 where
+  start : Reached bytes slots (nothingYet slots) bytes
+  more : {s t : SoFar} {rest after : List ℕ} → Reached bytes slots s rest → turn (length bytes) rest s ≡ goesOn t after → Reached bytes slots t after
+
+-- a refusal: reading comes to some commands, whose bytes are those before the place; the sheet does not end there, and what follows is
+-- refused. The requests of those commands stand in the slots, and no other slot is changed
 pub record RefusedAt (bytes slots : List ℕ) (f : SheetFault) (after : List ℕ) : Type 0 where
   pub sofar : SoFar
   pub rest : List ℕ
+  pub reached : Reached bytes slots sofar rest
   pub before : bytesSaid (sofar .stage) (sheetSaid sofar) ++ rest ≡ bytes
+  pub goes-on : complete rest sofar ≡ false
   pub next : turn (length bytes) rest sofar ≡ stops f
   pub stand : after ≡ writtenOver (sheetSaid sofar .requests) slots
 

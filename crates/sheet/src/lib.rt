@@ -16,10 +16,11 @@ mod view;
 
 pub use fault::SheetCause;
 pub use fault::SheetCauseDebug;
-pub use fault::SheetCauseEq;
 pub use fault::SheetCausePartialEq;
 pub use fault::SheetFault;
+pub use fault::SheetFaultDebug;
 pub use fault::SheetFaultDisplay;
+pub use fault::SheetFaultPartialEq;
 pub use rack::Rack;
 pub use result::SheetReading;
 pub use view::Sheet;

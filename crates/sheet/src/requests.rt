@@ -14,7 +14,8 @@ pub(crate) struct Requests<'a> {
 
 impl<'a> Requests<'a> {
     pub(crate) fn len(&self) -> usize
-        ensures { λ r. ⌜ r ≡ length (inOrder (now (self .entry))) ⌝ }
+        ensures order { λ r. ⌜ r ≡ length (inOrder (now (self .entry))) ⌝ }
+        ensures slots { λ r. ⌜ r ≡ length (now (now (self .entry) .slots)) ⌝ }
     {
         self.slots.len()
     }

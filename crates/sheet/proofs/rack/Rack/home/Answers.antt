@@ -1,8 +1,7 @@
 use mathlib.Core.Path.{_≡_, sym, ap, _∙_}
-use Prim.Native.Nat.{_<_, _≤_}
+use Prim.Native.Nat.{_<_}
 use native.Mathlib.Omega.{arith}
-use lib.ListN.{length, take, getD, length-take}
-use Rattle.std.specs.Finite.{nth}
+use lib.ListN.{length, take, length-take}
 use Rattle.std.specs.declared.option.Option.the-variants.{Some}
 use Rattle.std.proofs.shelf.Lists.{getD-take}
 use Rattle.std.proofs.shelf.Maps.{nth-getD, nth-past}
@@ -13,10 +12,13 @@ returns-then-block-self c =
     let r = c .args .self .now in
     let long = length-take (r .blocks) (r .homes) in
     let here : c .args .block < r .blocks = omega arith in
-    ap Some (sym (getD-take (r .blocks) (r .homes) (c .args .block) 0 here)) ∙ sym (nth-getD (take (r .blocks) (r .homes)) (c .args .block) 0 (omega arith))
+    record {
+      disk = ap Some (sym (getD-take (r .blocks) (r .homes) (c .args .block) 0 here)) ∙ sym (nth-getD (take (r .blocks) (r .homes)) (c .args .block) 0 (omega arith));
+      low = omega (arith, r .«on_disks» (c .args .block) here, r .«few_disks»);
+    }
 
 pub returns-else-block-self : need.returns-else-block-self
 returns-else-block-self c =
     let r = c .args .self .now in
     let long = length-take (r .blocks) (r .homes) in
-    sym (nth-past (take (r .blocks) (r .homes)) (c .args .block) (omega arith))
+    record { disk = sym (nth-past (take (r .blocks) (r .homes)) (c .args .block) (omega arith)); low = λ x. x }

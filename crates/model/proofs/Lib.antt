@@ -1,0 +1,17 @@
+pub mod Rows
+pub mod Counting
+pub mod Marks
+pub mod Progress
+pub mod Reading
+pub mod Writing
+pub mod Turns
+pub mod Accepts
+pub mod Gather
+pub mod Once
+pub mod Written
+pub mod Exact
+pub mod Plainly
+pub mod Places
+pub mod Refuses
+pub mod Arrives
+pub mod Refused

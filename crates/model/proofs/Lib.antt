@@ -15,3 +15,12 @@ pub mod Places
 pub mod Refuses
 pub mod Arrives
 pub mod Refused
+pub mod Picked
+pub mod Steady
+pub mod Reflected
+pub mod Mirroring
+pub mod Twice
+pub mod Sizes
+pub mod Letters
+pub mod MirrorWriting
+pub mod Images

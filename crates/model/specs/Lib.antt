@@ -5,3 +5,7 @@ pub mod Verdict
 pub mod Refusals
 pub mod Statements
 pub mod Worked
+pub mod Layout
+pub mod Mirror
+pub mod MirrorLaws
+pub mod WorkedMirrors

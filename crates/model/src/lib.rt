@@ -4,6 +4,8 @@
 ghost use Rattle.model.specs.Statements.{AcceptsExactly, RefusesExactly, OnePlan, KeepsForm, PlainReading, OppositeSides, OnePlace};
 ghost use Rattle.model.specs.Worked.{WorkedRows, WorkedEdges, ModelTells};
 
+pub mod mirror;
+
 // An exchange: the block that it brings in, the block that it sends out, and the boundary at which it starts.
 #[derive(Clone, Copy)]
 pub struct Exchange {

@@ -13,6 +13,7 @@ use Rattle.std.specs.declared.option.Option.{Option}
 use Rattle.std.specs.declared.option.Option.the-variants.{Some, None}
 use Rattle.std.proofs.shelf.Lists.{joined-more, take-more-set, drop-drop, drop-set-lt, getD-append-left, getD-push, getD-take, length-take-le, nil-from-length}
 use Rattle.std.proofs.shelf.Tests.{cond-both, leb-true, ltb-true, ltb-false, eqb-true, and-parts, or-cases, cases-eq}
+use Rattle.records.specs.Records.{writtenOver}
 use Rattle.model.specs.Sheet.{Sheet, RackFits, Fits, Between, sheetBytes, nameBytes, rackBytes, geometryBytes, diskBytes, requestBytes, endBytes}
 use Rattle.sheet.specs.declared.fault.SheetCause.the-variants.{RanOut, OutOfPlace, OutsideLimits, NotThere, TooMany, TooFewBlocks, NoSlotLeft}
 use Rattle.sheet.specs.declared.stage.Stage.{Stage}
@@ -21,7 +22,7 @@ use Rattle.sheet.specs.Commands.{Said, name, geometry, disk, request, end, fro
 use Rattle.sheet.specs.Reading.{SoFar, takes, rackSaid, sheetSaid, named, geared, housed, asked, ended, withinLimits, Took, kept, refused, took, Turn, goesOn, stops, fault, afterTaking, afterParsing, turn, isNothing, complete, nothingYet, Verdict, fit, unfit, Outcome, onward, run, reading}
 use Rattle.sheet.proofs.Fronts.{by-N, by-G, by-D, by-R, by-E}
 use Rattle.sheet.specs.declared.fault.SheetFault.{SheetFault}
-use Rattle.sheet.specs.Exact.{bytesSaid, writtenOver, Reached, start, more, RefusedAt}
+use Rattle.sheet.specs.Exact.{bytesSaid, Reached, start, more, RefusedAt}
 
 -- numbers that are bytes
 abbrev pub Bytes : List ℕ → Type 0

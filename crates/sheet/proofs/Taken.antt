@@ -16,11 +16,6 @@ use Rattle.sheet.specs.declared.draft.Draft.{Draft}
 use Rattle.sheet.specs.Reading.{SoFar, Took, kept, refused, housed, tookDisk, tookRequest}
 use Rattle.sheet.specs.Drafts.{soFar, answered, left}
 
--- an answer that is an error was not made by the first way
-pub not-taken : {X E : Type 0} (b : Bool) (x : X) (e d : E) → cond b (Ok x) (Err e) ≡ Err d → b ≡ false
-not-taken true x e d p = let z : _≡_ {A = ℕ} 0 1 = cc in absurd (omega arith)
-not-taken false x e d p = refl
-
 took-disk : (h : ℕ) (s : SoFar) → length (s .homes) < 1024 → h < s .disks → tookDisk h s ≡ kept (housed h s)
 took-disk h s few there = rw (lt-ltb (length (s .homes)) 1024 few, lt-ltb h (s .disks) there)
 

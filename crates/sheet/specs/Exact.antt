@@ -3,8 +3,9 @@ use mathlib.Core.Path.{_≡_}
 use mathlib.Core.Bool.{false}
 use mathlib.Core.List.{List, [], _++_}
 use Prim.Native.Nat.{ℕ, _≤_}
-use lib.ListN.{length, drop}
+use lib.ListN.{length}
 use Rattle.std.specs.Joined.{joined}
+use Rattle.records.specs.Records.{writtenOver}
 use Rattle.model.specs.Sheet.{Sheet, Fits, sheetBytes, nameBytes, rackBytes, requestBytes}
 use Rattle.sheet.specs.declared.fault.SheetFault.{SheetFault}
 use Rattle.sheet.specs.declared.stage.Stage.{Stage}
@@ -18,10 +19,6 @@ bytesSaid Geometry s = nameBytes (s .name)
 bytesSaid Blocks s = nameBytes (s .name) ++ (rackBytes (s .rack) ++ joined requestBytes (s .requests))
 bytesSaid Requests s = nameBytes (s .name) ++ (rackBytes (s .rack) ++ joined requestBytes (s .requests))
 bytesSaid Nothing s = sheetBytes s
-
--- these slots, the first of them written over
-abbrev pub writtenOver : List ℕ → List ℕ → List ℕ
-writtenOver records slots = records ++ drop (length records) slots
 
 -- where reading these bytes into these slots comes: what the commands so far have said, and the bytes left
 pub data Reached (bytes slots : List ℕ) : SoFar → List ℕ → Type 0 where

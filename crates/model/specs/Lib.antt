@@ -9,3 +9,5 @@ pub mod Layout
 pub mod Mirror
 pub mod MirrorLaws
 pub mod WorkedMirrors
+pub mod Replay
+pub mod WorkedReplay

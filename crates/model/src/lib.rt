@@ -2,6 +2,7 @@
 // bytes. The code here is the plain types that those definitions share with programs, so that a list of them in a
 // program is the list that a definition speaks of, and one function for each law, whose contract is that law.
 ghost use Rattle.model.specs.Statements.{AcceptsExactly, RefusesExactly, OnePlan, KeepsForm, PlainReading, OppositeSides, OnePlace};
+ghost use Rattle.model.specs.WorkedReplay.{WorkedReplay};
 ghost use Rattle.model.specs.Worked.{WorkedRows, WorkedEdges, ModelTells};
 
 pub mod mirror;
@@ -108,4 +109,9 @@ pub fn worked_rows_hold()
     ensures rows { λ _. ⌜ WorkedRows ⌝ }
     ensures edges { λ _. ⌜ WorkedEdges ⌝ }
     ensures told { λ _. ⌜ ModelTells ⌝ }
+{}
+
+// The seven-step plan, replayed, has the tally, the disks and the answers written beside it.
+pub fn replay_rows_hold()
+    ensures { λ _. ⌜ WorkedReplay ⌝ }
 {}

@@ -19,6 +19,7 @@ use Rattle.model.specs.declared.Phase.the-variants.{Starting}
 use Rattle.model.specs.Verdict.{State, Finding, Clean, Faulty, after}
 use Rattle.plan.specs.declared.fault.Stop.{Stop}
 use Rattle.plan.specs.declared.track.Track.{Track}
+use Rattle.plan.specs.Noted.{started}
 use Rattle.plan.specs.Tracks.{whole, answered, ifRoom, leftBy, afterFor}
 
 pub faulty-by : (f : Finding) (e : Stop) → Err e ≡ answered f → f ≡ Faulty (e .cause)
@@ -31,6 +32,9 @@ clean-by (Faulty c) p = let z : _≡_ {A = ℕ} 0 1 = cc in absurd (omega arith)
 
 pub stop-is : (x : Stop) → x .cause ≡ ListFull → x ≡ record { cause = ListFull }
 stop-is x e = λ i. record { cause = e i }
+
+abbrev pub withRecords : List Exchange → State → State
+withRecords xs s = record { phase = s .phase; opened = s .opened; floor = s .floor; position = s .position; boundary = s .boundary; waits = s .waits; landing = s .landing; marks = s .marks; idle = s .idle; records = xs }
 
 -- a refused push keeps the state
 pub kept-state : (t : Track) (len len′ : ℕ) (slots slots′ : List Exchange) → len′ ≡ len → slots′ ≡ slots → whole t (take len′ slots′) ≡ whole t (take len slots)
@@ -48,6 +52,6 @@ pub with-room : (b : Bool) (xs : List Exchange) (n room : ℕ) (r : Result (Unit
 with-room b xs n room r f e t is a = rw (e, t, is) at a
 
 -- the state after an exchange
-pub started : (side : Side) (sheet : Sheet) (room : ℕ) (s : State) (a b fetch disk : ℕ) (xs : List Exchange) → fetch ≡ sheet .rack .fetch → disk ≡ occupies side (sheet .rack .homes) (record { brings = a; sends = b; start = s .boundary }) → xs ≡ s .records ++ (record { brings = a; sends = b; start = s .boundary } ∷ []) → _≡_ {A = State} (record { phase = Starting; opened = s .opened; floor = s .floor; position = s .position; boundary = s .boundary; waits = s .waits; landing = s .boundary + fetch; marks = set (set (s .marks) b (Away (s .boundary + 1))) a (Here (s .boundary + fetch)); idle = set (s .idle) disk (s .boundary + fetch); records = xs }) (afterFor side sheet room s (Trades a b))
+pub started-is : (side : Side) (sheet : Sheet) (room : ℕ) (s : State) (a b fetch disk : ℕ) (t : State) → fetch ≡ sheet .rack .fetch → disk ≡ occupies side (sheet .rack .homes) (record { brings = a; sends = b; start = s .boundary }) → t ≡ started (withRecords (s .records ++ (record { brings = a; sends = b; start = s .boundary } ∷ [])) s) a b disk fetch → t ≡ afterFor side sheet room s (Trades a b)
 unfolding after
-started side sheet room s a b fetch disk xs f d x = rw (f, d, x)
+started-is side sheet room s a b fetch disk t f d e = e ∙ rw (f, d)

@@ -18,8 +18,7 @@ use model::Exchange;
 use sheet::Sheet;
 
 impl<'a> Receipt<'a> {
-    // Checks a plan forward. Its exchanges go into the slots, from the first one on; no other slot is changed.
-    pub fn new(sheet: Sheet<'a>, plan: &'a [u8], slots: &mut [Exchange]) -> Self
+    fn give(sheet: Sheet<'a>, plan: &'a [u8], slots: &mut [Exchange]) -> Self
         ensures answer { λ r. ⌜ answerOf (r .answer) ≡ verdictFor ForwardSide (meant (sheet .entry)) (length (now (slots .entry))) (now (plan .entry)) .answer ⌝ }
         ensures slots { λ _. ⌜ now (slots .exit) ≡ writtenOver (verdictFor ForwardSide (meant (sheet .entry)) (length (now (slots .entry))) (now (plan .entry)) .records) (now (slots .entry)) ⌝ }
         ensures exact { λ _. ⌜ ChecksExactly ForwardSide (meant (sheet .entry)) (length (now (slots .entry))) (now (plan .entry)) ⌝ }
@@ -34,11 +33,22 @@ impl<'a> Receipt<'a> {
         }
     }
 
+    // Checks a plan forward. Its exchanges go into the slots, from the first one on; no other slot is changed.
+    pub fn new(sheet: Sheet<'a>, plan: &'a [u8], slots: &mut [Exchange]) -> Self
+        ensures answer { λ r. ⌜ answerOf (r .answer) ≡ verdictFor ForwardSide (meant (sheet .entry)) (length (now (slots .entry))) (now (plan .entry)) .answer ⌝ }
+        ensures slots { λ _. ⌜ now (slots .exit) ≡ writtenOver (verdictFor ForwardSide (meant (sheet .entry)) (length (now (slots .entry))) (now (plan .entry)) .records) (now (slots .entry)) ⌝ }
+        ensures exact { λ _. ⌜ ChecksExactly ForwardSide (meant (sheet .entry)) (length (now (slots .entry))) (now (plan .entry)) ⌝ }
+        ensures sheet { λ r. ⌜ meant (r .sheet) ≡ meant (sheet .entry) ⌝ }
+        ensures plan { λ r. ⌜ now (r .plan) ≡ now (plan .entry) ⌝ }
+    {
+        Self::give(sheet, plan, slots)
+    }
+
     // The plan's counts, or why and where it was refused.
     pub fn outcome(&self) -> Result<Counts, PlanFault>
         ensures { λ r. ⌜ r ≡ now (self .entry) .answer ⌝ }
     {
-        self.answer
+        self.answer // whether void or not
     }
 
     // Whether the check refused.

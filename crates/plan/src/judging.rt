@@ -112,16 +112,13 @@ impl Track {
                 cause: Cause::BadOpening,
             });
         }
-        self.phase = Phase::Standing;
-        self.boundary += 1;
-        self.waits += 1;
+        self.note_wait();
         Ok(())
     }
 
-    // `E`: all requests are served and all exchanges have landed.
-    fn end(&mut self, sheet: Sheet) -> Result<(), Stop>
-        ensures answer { λ r. ⌜ ((side : Which) (room : ℕ) (xs : ListOf Trade) → r ≡ answered (first (testsFor side (meant (sheet .entry)) room (whole (now (self .entry)) xs) Ends))) ⌝ }
-        ensures after { λ _. ⌜ ((side : Which) (room : ℕ) (xs : ListOf Trade) → whole (now (self .exit)) xs ≡ leftBy (whole (now (self .entry)) xs) (afterFor side (meant (sheet .entry)) room (whole (now (self .entry)) xs) Ends) (first (testsFor side (meant (sheet .entry)) room (whole (now (self .entry)) xs) Ends))) ⌝ }
+    // Whether the end may stand here.
+    fn may_end(&self, sheet: Sheet) -> Result<(), Stop>
+        ensures { λ r. ⌜ ((side : Which) (room : ℕ) (xs : ListOf Trade) → r ≡ answered (first (testsFor side (meant (sheet .entry)) room (whole (now (self .entry)) xs) Ends))) ⌝ }
     {
         if self.opened != usize::from(sheet.rack().frames()) {
             return Err(Stop {
@@ -138,6 +135,15 @@ impl Track {
                 cause: Cause::NotLanded,
             });
         }
+        Ok(())
+    }
+
+    // `E`: all requests are served and all exchanges have landed.
+    fn end(&mut self, sheet: Sheet) -> Result<(), Stop>
+        ensures answer { λ r. ⌜ ((side : Which) (room : ℕ) (xs : ListOf Trade) → r ≡ answered (first (testsFor side (meant (sheet .entry)) room (whole (now (self .entry)) xs) Ends))) ⌝ }
+        ensures after { λ _. ⌜ ((side : Which) (room : ℕ) (xs : ListOf Trade) → whole (now (self .exit)) xs ≡ leftBy (whole (now (self .entry)) xs) (afterFor side (meant (sheet .entry)) room (whole (now (self .entry)) xs) Ends) (first (testsFor side (meant (sheet .entry)) room (whole (now (self .entry)) xs) Ends))) ⌝ }
+    {
+        self.may_end(sheet)?;
         self.phase = Phase::Over;
         Ok(())
     }
@@ -188,22 +194,11 @@ impl Track {
         ensures later { λ _. ⌜ drop (now (list .exit) .len) (now (now (list .exit) .slots)) ≡ drop (now (list .exit) .len) (now (now (list .entry) .slots)) ⌝ }
         ensures lent { λ _. ⌜ name (now (list .exit) .slots) ≡ name (now (list .entry) .slots) ⌝ }
     {
-        let start = self.boundary;
-        let exchange = Exchange {
-            brings,
-            sends,
-            start,
-        };
+        let exchange = self.exchange(brings, sends);
         self.may_trade::<S>(sheet, exchange)?;
         list.push(exchange)?;
         let rack = sheet.rack();
-        let disk = home(rack, S::carrier(exchange)) as usize;
-        let landing = start + rack.fetch() as u32;
-        self.phase = Phase::Starting;
-        self.landing = landing;
-        self.marks[sends as usize] = Mark::Away(start + 1);
-        self.marks[brings as usize] = Mark::Here(landing);
-        self.idle[disk] = landing;
+        self.note_trade(exchange, home(rack, S::carrier(exchange)), rack.fetch());
         Ok(())
     }
 

@@ -7,6 +7,7 @@ mod front;
 mod giving;
 mod judging;
 mod marks;
+mod noting;
 mod receipt;
 mod side;
 mod step;

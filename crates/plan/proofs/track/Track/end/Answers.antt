@@ -1,25 +1,27 @@
 use mathlib.Core.Path.{_≡_, sym, ap, _∙_}
 use mathlib.Core.List.{List}
-use Prim.Native.Nat.{ℕ, _<_, _≤_}
-use native.Mathlib.Omega.{arith}
-use lib.ListN.{length}
-use Rattle.model.specs.Sheet.{Rack}
+use Prim.Native.Nat.{ℕ}
+use Rattle.std.specs.declared.result.Result.the-variants.{Err}
+use Rattle.std.proofs.shelf.Results.{err-from-errBy}
 use Rattle.model.specs.Timetable.{Side}
 use Rattle.model.specs.declared.Exchange.{Exchange}
 use Rattle.model.specs.Verdict.{after}
-use Rattle.sheet.specs.Sheets.{meant}
-use Rattle.plan.specs.Tracks.{whole, answered, leftBy}
-use Rattle.plan.proofs.Judged.{ends-clean}
+use Rattle.plan.specs.Tracks.{whole, leftBy}
+use Rattle.plan.proofs.Traded.{faulty-by, clean-by}
 use Rattle.plan.proofs.track.Track.end.Needs as need
+
+pub returns-in-Break-may-end : need.returns-in-Break-may-end
+returns-in-Break-may-end c =
+    let told = err-from-errBy (c .from-residual .result) (c .from-residual .ensures .1) in
+    record {
+      answer = λ side room xs. told .1 ∙ ap Err (told .2) ∙ c .in-Break-may-end .ensures tt side room xs;
+      after = λ side room xs. sym (ap (leftBy (whole (c .args .self .now) xs) _) (faulty-by _ _ (c .in-Break-may-end .ensures tt side room xs)));
+    }
 
 pub returns : need.returns
 unfolding after
 returns c =
-    let sheet = meant (c .args .sheet) in
-    let frames = c .frames .ensures .frames ∙ ap (λ (r : Rack). r .frames) (c .rack .ensures) in
-    let opened = c .if-self-from .left ∙ c .from .ensures ∙ frames in
-    let found = λ (side : Side) (room : ℕ) (xs : List Exchange). ends-clean side sheet room (whole (c .args .self .now) xs) opened (c .if-self-len .left ∙ c .len .ensures .requests) (c .if-self .left) in
     record {
-      answer = λ side room xs. sym (ap answered (found side room xs));
-      after = λ side room xs. sym (ap (leftBy (whole (c .args .self .now) xs) _) (found side room xs));
+      answer = λ side room xs. c .in-Continue-may-end .ensures tt side room xs;
+      after = λ side room xs. sym (ap (leftBy (whole (c .args .self .now) xs) _) (clean-by _ (c .in-Continue-may-end .ensures tt side room xs)));
     }

@@ -21,5 +21,5 @@ returns c =
     let found = λ (side : Side) (room : ℕ) (xs : List Exchange). waits-clean side sheet room (whole (c .args .self .now) xs) opened in
     record {
       answer = λ side room xs. sym (ap answered (found side room xs));
-      after = λ side room xs. sym (ap (leftBy (whole (c .args .self .now) xs) _) (found side room xs));
+      after = λ side room xs. c .note-wait .ensures xs ∙ sym (ap (leftBy (whole (c .args .self .now) xs) _) (found side room xs));
     }

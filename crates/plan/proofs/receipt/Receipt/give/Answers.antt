@@ -2,7 +2,7 @@ use native.Mathlib.Omega.{arith}
 use lib.ListN.{length}
 use Rattle.sheet.specs.Sheets.{meant}
 use Rattle.plan.proofs.Exactness.{rack-fit, receipt-holds}
-use Rattle.plan.proofs.receipt.Receipt.new.Needs as need
+use Rattle.plan.proofs.receipt.Receipt.give.Needs as need
 
 pub ghost-result : need.ghost-result
 ghost-result c = (

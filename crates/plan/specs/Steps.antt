@@ -1,13 +1,13 @@
 -- One command of a plan on a sheet: what it answers and what it leaves. Assumes nothing.
 use mathlib.Core.List.{List}
 use Prim.Native.Nat.{ℕ}
-use denote.Ref.{RefT}
 use Rattle.std.specs.declared.result.Result.{Result}
 use Rattle.std.specs.declared.result.Result.the-variants.{Ok, Err}
 use Rattle.model.specs.Sheet.{Sheet}
 use Rattle.model.specs.Timetable.{Side}
 use Rattle.model.specs.Verdict.{State, Turn, Goes, Stops, step, Outcome, run, verdict}
 use Rattle.plan.specs.declared.fault.PlanFault.{PlanFault}
+use Rattle.plan.specs.declared.reader.PlanReader.{PlanReader}
 
 abbrev pub stepFor : Side → Sheet → ℕ → ℕ → State → List ℕ → Turn
 stepFor side sheet room total s rest = step side (sheet .rack .homes) (sheet .rack .frames) (sheet .rack .fetch) (sheet .requests) room total s rest
@@ -28,7 +28,7 @@ abbrev pub stepLeft : State → Turn → State
 stepLeft s (Goes t rest) = t
 stepLeft s (Stops cause place) = s
 
--- an answer that borrows the bytes after a command
-abbrev pub stepped : Result (RefT (List ℕ)) PlanFault → Result (List ℕ) PlanFault
-stepped (Ok rest) = Ok (rest .now)
+-- an answer of the reader past a command: what is left of the bytes
+abbrev pub stepped : Result PlanReader PlanFault → Result (List ℕ) PlanFault
+stepped (Ok reader) = Ok (reader .rest .now)
 stepped (Err f) = Err f

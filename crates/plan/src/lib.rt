@@ -8,6 +8,7 @@ mod giving;
 mod judging;
 mod marks;
 mod noting;
+mod reader;
 mod receipt;
 mod side;
 mod step;

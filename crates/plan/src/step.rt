@@ -8,10 +8,9 @@ ghost use Rattle.records.specs.Records.{held};
 ghost use Rattle.sheet.specs.Sheets.{meant};
 ghost use Rattle.plan.specs.Steps.{stepFor, stepAnswer, stepLeft, stepped};
 ghost use Rattle.plan.specs.Tracks.{whole};
-use crate::admitting::size_of;
 use crate::admitting::told;
 use crate::fault::PlanFault;
-use crate::front::front;
+use crate::reader::PlanReader;
 use crate::side::Lane;
 use crate::track::Track;
 use model::Exchange;
@@ -19,30 +18,29 @@ use records::List;
 use sheet::Sheet;
 
 impl Track {
-    // Judges the command at the front of `rest`, what is left of `total` bytes. Answers what then is left.
+    // Judges the command at the reader's place. Answers the reader past it.
     pub(crate) fn step<'a, S: Lane>(
         &mut self,
         sheet: Sheet,
-        total: usize,
-        rest: &'a [u8],
+        reader: PlanReader<'a>,
         list: &mut List<Exchange>,
-    ) -> Result<&'a [u8], PlanFault>
-        requires { ⌜ now self .boundary + length (now rest) ≤ total ⌝ }
-        ensures answer { λ r. ⌜ stepped r ≡ stepAnswer (stepFor (S·Lane .side) (meant (sheet .entry)) (length (now (now (list .entry) .slots))) total (whole (now (self .entry)) (held (now (list .entry) .len) (now (now (list .entry) .slots)))) (now (rest .entry))) ⌝ }
-        ensures after { λ _. ⌜ whole (now (self .exit)) (held (now (list .exit) .len) (now (now (list .exit) .slots))) ≡ stepLeft (whole (now (self .entry)) (held (now (list .entry) .len) (now (now (list .entry) .slots)))) (stepFor (S·Lane .side) (meant (sheet .entry)) (length (now (now (list .entry) .slots))) total (whole (now (self .entry)) (held (now (list .entry) .len) (now (now (list .entry) .slots)))) (now (rest .entry))) ⌝ }
-        ensures shorter { λ r. ⌜ made r (λ more. (length (now more) < length (now (rest .entry))) × (now (self .exit) .boundary + length (now more) ≤ total)) ⌝ }
+    ) -> Result<PlanReader<'a>, PlanFault>
+        requires { ⌜ now self .boundary + length (now (reader .rest)) ≤ reader .total ⌝ }
+        ensures answer { λ r. ⌜ stepped r ≡ stepAnswer (stepFor (S·Lane .side) (meant (sheet .entry)) (length (now (now (list .entry) .slots))) (reader .entry .total) (whole (now (self .entry)) (held (now (list .entry) .len) (now (now (list .entry) .slots)))) (now (reader .entry .rest))) ⌝ }
+        ensures after { λ _. ⌜ whole (now (self .exit)) (held (now (list .exit) .len) (now (now (list .exit) .slots))) ≡ stepLeft (whole (now (self .entry)) (held (now (list .entry) .len) (now (now (list .entry) .slots)))) (stepFor (S·Lane .side) (meant (sheet .entry)) (length (now (now (list .entry) .slots))) (reader .entry .total) (whole (now (self .entry)) (held (now (list .entry) .len) (now (now (list .entry) .slots)))) (now (reader .entry .rest))) ⌝ }
+        ensures shorter { λ r. ⌜ made r (λ next. (length (now (next .rest)) < length (now (reader .entry .rest))) × (now (self .exit) .boundary + length (now (next .rest)) ≤ reader .entry .total) × (next .total ≡ reader .entry .total)) ⌝ }
         ensures room { λ _. ⌜ length (now (now (list .exit) .slots)) ≡ length (now (now (list .entry) .slots)) ⌝ }
         ensures grows { λ _. ⌜ now (list .entry) .len ≤ now (list .exit) .len ⌝ }
         ensures later { λ _. ⌜ drop (now (list .exit) .len) (now (now (list .exit) .slots)) ≡ drop (now (list .exit) .len) (now (now (list .entry) .slots)) ⌝ }
         ensures lent { λ _. ⌜ name (now (list .exit) .slots) ≡ name (now (list .entry) .slots) ⌝ }
     {
-        let left = rest.len();
-        let place = total - left;
-        let found = front(rest);
+        let total = reader.total;
+        let place = reader.place();
+        let left = reader.left();
+        let found = reader.found();
         let command = told(self.admit(found, total, place, left), total, place)?;
         let answer = self.take::<S>(sheet, command, list);
         told(answer, total, place)?;
-        let (_, more) = rest.split_at(size_of(command));
-        Ok(more)
+        Ok(reader.past(command))
     }
 }

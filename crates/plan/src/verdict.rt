@@ -13,6 +13,7 @@ ghost use Rattle.plan.specs.Steps.{verdictFor};
 ghost use Rattle.plan.specs.Tracks.{whole};
 use crate::counts::Counts;
 use crate::fault::PlanFault;
+use crate::reader::PlanReader;
 use crate::side::Lane;
 use crate::track::Track;
 use model::Exchange;
@@ -21,10 +22,10 @@ use sheet::Sheet;
 
 impl Track {
     // Whether the end was read and no byte is left.
-    fn is_finished(&self, rest: &[u8]) -> bool
-        ensures { λ r. ⌜ ((xs : ListOf Trade) → r ≡ finished (whole (now (self .entry)) xs) (now (rest .entry))) ⌝ }
+    fn is_finished(&self, reader: PlanReader) -> bool
+        ensures { λ r. ⌜ ((xs : ListOf Trade) → r ≡ finished (whole (now (self .entry)) xs) (now (reader .entry .rest))) ⌝ }
     {
-        self.is_over() && rest.is_empty()
+        self.is_over() && reader.left() == 0
     }
 }
 
@@ -40,11 +41,10 @@ pub(crate) fn judge<S: Lane>(
     ensures later { λ _. ⌜ drop (now (list .exit) .len) (now (now (list .exit) .slots)) ≡ drop (now (list .exit) .len) (now (now (list .entry) .slots)) ⌝ }
     ensures lent { λ _. ⌜ name (now (list .exit) .slots) ≡ name (now (list .entry) .slots) ⌝ }
 {
-    let total = bytes.len();
     let mut track = Track::new();
-    let mut rest = bytes;
-    while !track.is_finished(rest) {
-        rest = track.step::<S>(sheet, total, rest, list)?;
+    let mut reader = PlanReader::new(bytes);
+    while !track.is_finished(reader) {
+        reader = track.step::<S>(sheet, reader, list)?;
     }
     Ok(Counts {
         steps: track.boundary,

@@ -1,0 +1,11 @@
+mod ArrayLoads
+mod Blind
+mod Fetches
+mod Loads
+mod OnMeaning
+mod Places
+mod Recovery
+mod SameBank
+mod Waits
+mod Whole
+mod WholeFetch

@@ -1,0 +1,32 @@
+// Disk banks: blocks of 512 bytes on up to eight disks, of which each fetches one block at a time.
+mod bank;
+mod copy;
+mod drives;
+mod fault;
+mod fetch;
+mod image;
+mod layout;
+mod limits;
+mod parity;
+mod rebuilt;
+mod state;
+
+pub use bank::Bank;
+pub use fault::BankFault;
+pub use fault::BankFaultDebug;
+pub use fault::BankFaultDisplay;
+pub use fault::BankFaultEq;
+pub use fault::BankFaultPartialEq;
+pub use fetch::fetch_block;
+pub use image::ImageBank;
+pub use image::ImageBankBank;
+pub use layout::Layout;
+pub use layout::LayoutDebug;
+pub use layout::LayoutEq;
+pub use layout::LayoutPartialEq;
+pub use rebuilt::RebuiltBank;
+pub use rebuilt::RebuiltBankBank;
+pub use state::DiskState;
+pub use state::DiskStateDebug;
+pub use state::DiskStateEq;
+pub use state::DiskStatePartialEq;

@@ -1,0 +1,4 @@
+// Each test goes over a table.
+mod loads;
+mod order;
+mod reading;

@@ -11,3 +11,10 @@ pub mod MirrorLaws
 pub mod WorkedMirrors
 pub mod Replay
 pub mod WorkedReplay
+pub mod View
+pub mod Rules
+pub mod Pass
+pub mod WorkedPasses
+pub mod PassLaws
+pub mod Follows
+pub mod ViewLaws

@@ -1,12 +1,13 @@
 -- The seven-step plan replayed: what the tally, the disks and the answers are along the way.
 use mathlib.Core.Path.{_≡_}
-use mathlib.Core.List.{List, [], _∷_}
+use mathlib.Core.List.{List, [], _∷_, _++_}
+use mathlib.Core.Bool.{true, false}
 use Prim.Native.Nat.{ℕ}
 use lib.ListN.{replicate}
 use Rattle.model.specs.Sheet.{Sheet}
 use Rattle.model.specs.Timetable.{Exchange, Serve, Wait, Plan}
 use Rattle.model.specs.Worked.{homes6, requests6}
-use Rattle.model.specs.Replay.{Bank, Doing, Idle, Fetches, Reply, Stepped, Gave, Told, Refused, Call, Step, Read, Count, Tally, tallyAt, bankAt, replies}
+use Rattle.model.specs.Replay.{Bank, Doing, Idle, Fetches, Reply, Stepped, Gave, Told, Refused, Call, Step, Read, Count, Tally, tallyAt, bankAt, replies, Ask, Start, Tick, Collect, allGranted, askedAll, loading, asksAt, asksUpTo}
 
 abbrev sheet6 : Sheet
 sheet6 = record { name = replicate 16 32; rack = record { disks = 2; frames = 4; fetch = 2; homes = homes6 }; requests = requests6 }
@@ -29,4 +30,9 @@ pub record WorkedReplay : Type 0 where
   pub second : bankAt sheet6 sevenSteps bank6 3 .doing 0 ≡ Fetches 4 1
   pub over : bankAt sheet6 sevenSteps bank6 7 .doing 0 ≡ Idle
   pub tally : tallyAt sheet6 sevenSteps bank6 7 ≡ record { steps = 7; served = 6; waited = 1; started = 3; landed = 3 }
-  pub calls : replies sheet6 sevenSteps bank6 5 (Step ∷ Read [] ∷ Step ∷ Read [] ∷ Step ∷ Count ∷ []) ≡ Stepped Wait ∷ Refused 23 ∷ Stepped Serve ∷ Refused 24 ∷ Refused 22 ∷ Told (record { steps = 7; served = 6; waited = 1; started = 3; landed = 3 }) ∷ []
+  pub calls : replies sheet6 sevenSteps bank6 5 (Step ∷ Read [] ∷ Step ∷ Read [] ∷ Step ∷ Count ∷ []) ≡ Stepped Wait ∷ Refused 23 6 [] ∷ Stepped Serve ∷ Refused 24 7 [] ∷ Refused 22 7 [] ∷ Told (record { steps = 7; served = 6; waited = 1; started = 3; landed = 3 }) ∷ []
+  pub asks : asksAt sheet6 sevenSteps bank6 2 ≡ Collect 0 ∷ Start 4 ∷ Tick ∷ []
+  pub quiet : allGranted bank6 (loading sheet6 sevenSteps bank6 (0 ∷ 1 ∷ 3 ∷ 5 ∷ []) ++ asksUpTo sheet6 sevenSteps bank6 7) ≡ true
+  pub idle : askedAll bank6 (loading sheet6 sevenSteps bank6 (0 ∷ 1 ∷ 3 ∷ 5 ∷ []) ++ asksUpTo sheet6 sevenSteps bank6 7) .doing 0 ≡ Idle
+  -- a step is needed in between: the second exchange of the disk cannot start before the first is collected
+  pub early : allGranted bank6 (Start 2 ∷ Tick ∷ Tick ∷ Start 4 ∷ []) ≡ false

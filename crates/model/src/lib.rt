@@ -6,6 +6,7 @@ ghost use Rattle.model.specs.WorkedReplay.{WorkedReplay};
 ghost use Rattle.model.specs.Worked.{WorkedRows, WorkedEdges, ModelTells};
 
 pub mod mirror;
+pub mod pass;
 
 // An exchange: the block that it brings in, the block that it sends out, and the boundary at which it starts.
 #[derive(Clone, Copy)]

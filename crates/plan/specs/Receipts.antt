@@ -16,7 +16,7 @@ abbrev pub says : Answer → Counts → Bool
 says (Accepted steps waits exchanges) c = eqb steps (c .steps) && (eqb waits (c .waits) && eqb exchanges (c .exchanges))
 says (Refused cause place) c = false
 
--- a void receipt holds of nothing
+-- a void receipt says nothing of the plan
 abbrev pub holds : Sheet → List ℕ → Result Counts PlanFault → Bool
 holds sheet plan (Ok c) = says (verdictFor Forward sheet (c .exchanges) plan .answer) c
 holds sheet plan (Err f) = true

@@ -1,4 +1,7 @@
 // The public library: users import this crate alone.
+
+#![tactic(auto)]
+
 mod fault;
 
 pub use fault::Fault;

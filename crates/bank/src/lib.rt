@@ -1,4 +1,7 @@
 // Disk banks: blocks of 512 bytes on up to eight disks, of which each fetches one block at a time.
+
+#![tactic(auto)]
+
 mod bank;
 mod copy;
 mod drives;

@@ -1,4 +1,7 @@
 // The banks at work on a recording of three rows and a short one.
+
+#![tactic(auto)]
+
 mod reads;
 mod recording;
 #[cfg(test)]

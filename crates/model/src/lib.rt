@@ -1,6 +1,9 @@
 // The subject of the whole library, as definitions: the timetable of a plan, its bytes, and the verdict on any
 // bytes. The code here is the plain types that those definitions share with programs, so that a list of them in a
 // program is the list that a definition speaks of, and one function for each law, whose contract is that law.
+
+#![tactic(auto)]
+
 ghost use Rattle.model.specs.Statements.{AcceptsExactly, RefusesExactly, OnePlan, KeepsForm, PlainReading, OppositeSides, OnePlace};
 ghost use Rattle.model.specs.WorkedReplay.{WorkedReplay};
 ghost use Rattle.model.specs.Worked.{WorkedRows, WorkedEdges, ModelTells};

@@ -42,7 +42,7 @@ impl Track {
         ensures after { (side : Which) (room : ℕ) (xs : ListOf Trade) → whole self.new xs ≡ left_by (whole self.old xs) (after_for side (meant sheet.entry) room (whole self.old xs) (Opens block)) (first (tests_for side (meant sheet.entry) room (whole self.old xs) (Opens block))) }
     {
         let at = block as usize;
-        if self.opened >= usize::from(sheet.rack.frames()) {
+        if self.opened >= usize::from(sheet.rack().frames()) {
             return Err(Stop {
                 cause: Cause::BadOpening,
             });
@@ -52,7 +52,7 @@ impl Track {
                 cause: Cause::BadOpening,
             });
         }
-        if at >= sheet.rack.blocks() {
+        if at >= sheet.rack().blocks() {
             return Err(Stop {
                 cause: Cause::BadOpening,
             });
@@ -70,7 +70,7 @@ impl Track {
         ensures answer { (side : Which) (room : ℕ) (xs : ListOf Trade) → result ≡ answered (first (tests_for side (meant sheet.entry) room (whole self.old xs) Serves)) }
         ensures after { (side : Which) (room : ℕ) (xs : ListOf Trade) → whole self.new xs ≡ left_by (whole self.old xs) (after_for side (meant sheet.entry) room (whole self.old xs) Serves) (first (tests_for side (meant sheet.entry) room (whole self.old xs) Serves)) }
     {
-        if self.opened != usize::from(sheet.rack.frames()) {
+        if self.opened != usize::from(sheet.rack().frames()) {
             return Err(Stop {
                 cause: Cause::BadOpening,
             });
@@ -97,7 +97,7 @@ impl Track {
         ensures answer { (side : Which) (room : ℕ) (xs : ListOf Trade) → result ≡ answered (first (tests_for side (meant sheet.entry) room (whole self.old xs) Waits)) }
         ensures after { (side : Which) (room : ℕ) (xs : ListOf Trade) → whole self.new xs ≡ left_by (whole self.old xs) (after_for side (meant sheet.entry) room (whole self.old xs) Waits) (first (tests_for side (meant sheet.entry) room (whole self.old xs) Waits)) }
     {
-        if self.opened != usize::from(sheet.rack.frames()) {
+        if self.opened != usize::from(sheet.rack().frames()) {
             return Err(Stop {
                 cause: Cause::BadOpening,
             });
@@ -110,7 +110,7 @@ impl Track {
     fn may_end(&self, sheet: Sheet) -> Result<(), Stop>
         ensures { (side : Which) (room : ℕ) (xs : ListOf Trade) → result ≡ answered (first (tests_for side (meant sheet.entry) room (whole self.now xs) Ends)) }
     {
-        if self.opened != usize::from(sheet.rack.frames()) {
+        if self.opened != usize::from(sheet.rack().frames()) {
             return Err(Stop {
                 cause: Cause::BadOpening,
             });
@@ -144,7 +144,7 @@ impl Track {
         ensures answer { (room : ℕ) (xs : ListOf Trade) → if_room (nat_lt (length xs) room) result ≡ answered (first (tests_for S.Lane.side (meant sheet.entry) room (whole self.now xs) (Trades exchange.brings exchange.sends))) }
         ensures inside { OnOk result ((exchange.brings < 1024) × (exchange.sends < 1024)) }
     {
-        let rack = sheet.rack;
+        let rack = sheet.rack();
         if self.opened != usize::from(rack.frames()) {
             return Err(Stop {
                 cause: Cause::BadOpening,
@@ -187,7 +187,7 @@ impl Track {
         let exchange = self.exchange(brings, sends);
         self.may_trade::<S>(sheet, exchange)?;
         list.push(exchange)?;
-        let rack = sheet.rack;
+        let rack = sheet.rack();
         self.note_trade(exchange, home(rack, S::carrier(exchange)), rack.fetch());
         Ok(())
     }

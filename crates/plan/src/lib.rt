@@ -1,4 +1,7 @@
 // Plans: read command by command and checked against a sheet, on either side.
+
+#![tactic(auto)]
+
 mod admitting;
 mod checking;
 mod counts;

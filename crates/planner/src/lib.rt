@@ -1,4 +1,7 @@
 // Planning: what a choosing rule sees, what it answers, and the pass that asks it at every boundary and writes the plan.
+
+#![tactic(auto)]
+
 mod board;
 mod rule;
 mod uses;

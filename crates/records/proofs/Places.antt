@@ -6,7 +6,7 @@ use Rattle.std.specs.Option.{option_map}
 use Rattle.std.proofs.lemmas.Option.{slice_get_read, slice_get_past}
 
 module _ {X : Type 0} (xs : List X) (len at : ℕ) where
-  pub within : (o : Option (Bor X)) → IsGetResult xs at at o → at < len → option_map ((λ x. x.now) {X = X}) o ≡ slice_get (take len xs) at
+  pub within : (o : Option (Bor X)) → IsGetResult xs at at o → at < len → option_map (λ (r : Bor X). r.now) o ≡ slice_get (take len xs) at
   within None h l =
       let past : length xs ≤ at = h.3 in
       let short : length (take len xs) ≤ at = simp length-take (omega arith) in

@@ -1,4 +1,7 @@
 // A bounded list of records over a slice that the caller lends: one kind of list for every kind of record.
+
+#![tactic(auto)]
+
 mod full;
 mod held;
 mod list;

@@ -1,4 +1,7 @@
 // What a caller is told when something is refused: a number, the layer that refused, and a place.
+
+#![tactic(auto)]
+
 ghost use Rattle.std.specs.Prelude.{◌++◌, Some};
 ghost use Rattle.refusal.specs.Line.{word, line};
 

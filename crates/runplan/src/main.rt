@@ -1,4 +1,7 @@
 // Reads a sheet from standard input and tells what was read, or the one refusal.
+
+#![tactic(auto)]
+
 use anyhow::anyhow;
 use backread::{Fault, Sheet, SheetReading};
 use std::io;
@@ -17,7 +20,7 @@ fn input(rt: &HostRuntime) -> io::Result<Vec<u8>> {
 fn report(rt: &HostRuntime, sheet: Sheet) -> io::Result<()> {
     let mut out = rt.stdout();
     out.write_all(sheet.name())?;
-    let rack = sheet.rack;
+    let rack = sheet.rack();
     let disks = rack.disks();
     let frames = rack.frames();
     let fetch = rack.fetch();

@@ -1,4 +1,7 @@
 // Sheets: the rack, and the list of blocks that are requested, read from bytes.
+
+#![tactic(auto)]
+
 mod command;
 mod draft;
 mod fault;

@@ -70,6 +70,13 @@ impl<'a> Sheet<'a> {
         self.name // always sixteen bytes
     }
 
+    // The rack that the sheet is read from.
+    pub fn rack(&self) -> &'a Rack
+        ensures { rack_of result.now ≡ (meant self.now).rack }
+    {
+        self.rack
+    }
+
     // How many requests there are.
     pub fn len(&self) -> usize
         ensures requests { result ≡ length (meant self.now).requests }

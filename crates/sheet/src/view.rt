@@ -7,7 +7,7 @@ use crate::requests::Requests;
 #[derive(Clone, Copy)]
 pub struct Sheet<'a> {
     pub(crate) name: &'a [u8],
-    pub rack: &'a Rack,
+    pub(crate) rack: &'a Rack,
     pub(crate) requests: Requests<'a>,
     ghost sixteen: { length name.now ≡ 16 },
     ghost few_requests: { length requests.slots.now ≤ 4096 },

@@ -1,4 +1,7 @@
 // Tests of the library, from the outside: tables of damaged sheets and plans, and both at their limits.
+
+#![tactic(auto)]
+
 #[cfg(test)]
 mod plans;
 #[cfg(test)]

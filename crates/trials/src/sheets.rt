@@ -376,7 +376,7 @@ fn tells(rt: &impl Abort, reading: &SheetReading) {
     let sheet = reading.sheet();
     assert_eq!(rt; sheet.name(), b"FIGURE-ONE-CASE1".as_slice());
     assert_eq!(rt; sheet.len(), 4);
-    let rack = sheet.rack;
+    let rack = sheet.rack();
     assert_eq!(rt; rack.disks(), 2);
     assert_eq!(rt; rack.frames(), 2);
     assert_eq!(rt; rack.fetch(), 3);

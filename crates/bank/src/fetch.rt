@@ -8,9 +8,9 @@ use crate::fault::BankFault;
 
 // Starts the block, lets the fetch time pass and collects the block into the buffer's first 512 bytes.
 pub fn fetch_block<B: Bank>(bank: &mut B, block: u16, buffer: &mut [u8]) -> Result<(), BankFault>
-    ensures answer { result ≡ fetch_answer (meaning bank.old) block (length buffer.old) }
-    ensures after { meaning bank.new ≡ fetch_after (meaning bank.old) block (length buffer.old) }
-    ensures bytes { buffer.new ≡ fetch_buffer (meaning bank.old) block buffer.old }
+    ensures answer { result ≡ fetch_answer (B.meaning bank.old) block (length buffer.old) }
+    ensures after { B.meaning bank.new ≡ fetch_after (B.meaning bank.old) block (length buffer.old) }
+    ensures bytes { buffer.new ≡ fetch_buffer (B.meaning bank.old) block buffer.old }
 {
     let disk = bank.disk(block);
     fetch_from(bank, disk, block, buffer)
@@ -23,10 +23,10 @@ fn fetch_from<B: Bank>(
     block: u16,
     buffer: &mut [u8],
 ) -> Result<(), BankFault>
-    requires { disk ≡ disk_of (meaning bank.old) block }
-    ensures answer { result ≡ fetch_answer (meaning bank.old) block (length buffer.old) }
-    ensures after { meaning bank.new ≡ fetch_after (meaning bank.old) block (length buffer.old) }
-    ensures bytes { buffer.new ≡ fetch_buffer (meaning bank.old) block buffer.old }
+    requires { disk ≡ disk_of (B.meaning bank.old) block }
+    ensures answer { result ≡ fetch_answer (B.meaning bank.old) block (length buffer.old) }
+    ensures after { B.meaning bank.new ≡ fetch_after (B.meaning bank.old) block (length buffer.old) }
+    ensures bytes { buffer.new ≡ fetch_buffer (B.meaning bank.old) block buffer.old }
 {
     let Some(disk) = disk else {
         return Err(BankFault::NoSuchBlock);
@@ -39,7 +39,7 @@ fn fetch_from<B: Bank>(
 
 // Lets so many steps pass.
 fn wait<B: Bank>(bank: &mut B, steps: u8)
-    ensures { meaning bank.new ≡ later steps (meaning bank.old) }
+    ensures { B.meaning bank.new ≡ later steps (B.meaning bank.old) }
 {
     for _passed in 0..steps {
         bank.tick();

@@ -10,9 +10,9 @@ loop-passed-init g c = sym (later_none (g.B.Bank.meaning c.args.bank.now))
 pub loop-passed-preserved : goal.loop-passed-preserved
 loop-passed-preserved g c =
     c.tick.ensures
-    ∙ (ap tick_after c.loop-passed.invariant ∙ later_more c.loop-passed.-passed (g.B.Bank.meaning c.args.bank.now))
+    ∙ (ap tick_after c.loop-passed.invariant ∙ later_more c.loop-passed._passed (g.B.Bank.meaning c.args.bank.now))
 
 pub returns : goal.returns
 returns g c =
-    let all : c.loop-passed.-passed ≡ c.args.steps = omega arith in
+    let all : c.loop-passed._passed ≡ c.args.steps = omega arith in
     c.loop-passed.invariant ∙ ap (λ n. later n (g.B.Bank.meaning c.args.bank.now)) all

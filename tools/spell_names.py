@@ -4,8 +4,9 @@
 usage: python3 tools/spell_names.py, once, at the top of a checkout that Rattle's port.py has just turned
 
 A row of names.tsv has an old name and its new one. In specs/ and proofs/ each row is applied to whole names, but not to a
-label that Rattle makes in a function's Answers and Invariants. In src/ and in what documents quote, only rows whose old
-name Rust could not have written are applied. Functions of src/, strings, inputs, outputs and edits stay as they are.
+label that Rattle makes in a function's Answers and Invariants. In src/, in comments and in what documents quote, only rows
+whose old name Rust could not have written are applied, and in a comment none with a dash, since plain words have dashes too.
+Functions of src/, strings, inputs, outputs and edits stay as they are.
 """
 
 import os
@@ -24,13 +25,35 @@ def rows():
         return dict(line.rstrip("\n").split("\t") for line in table)
 
 
+def comment_from(line, mark):
+    """Where the comment of a line begins: at its end where it has none."""
+    found = re.search(rf"(^|\s){mark}(\s|$)", line)
+    return found.start() if found else len(line)
+
+
 def spelled(text, names, labelled):
     def turn(found):
-        if labelled and MADE.search(text, max(0, found.start() - 6), found.start()):
+        if labelled and MADE.search(found.string, max(0, found.start() - 6), found.start()):
             return found[0]
         return names.get(found[0], found[0])
 
-    return NAME.sub(turn, text)
+    def of_line(line):
+        at = comment_from(line, "--")
+        return NAME.sub(turn, line[:at]) + spelled_words(line[at:], plain(names))
+
+    return "\n".join(map(of_line, text.split("\n")))
+
+
+def plain(names):
+    return {old: new for old, new in names.items() if "-" not in old and re.search("[A-Z]", old)}
+
+
+def spelled_source(text, names):
+    def of_line(line):
+        at = comment_from(line, "//")
+        return spelled_words(line[:at], names) + spelled_words(line[at:], plain(names))
+
+    return "\n".join(map(of_line, text.split("\n")))
 
 
 def spelled_words(text, names):
@@ -45,7 +68,7 @@ def turned(path, text, names, foreign):
     if path.endswith(".antt"):
         return spelled(text, names, LABELLED.search(path) is not None)
     if path.endswith(".rt"):
-        return spelled_words(text, foreign)
+        return spelled_source(text, foreign)
     return spelled_page(text, foreign)
 
 

@@ -32,17 +32,17 @@ module _ (l : Layout) (steps : ℕ) (e : array_limits l steps ≡ true) where
   pub limits_eight : l.disks ≤ 8
   limits_eight = leb-true _ _ (and_parts _ _ (and_parts _ _ limits_disks).1).0
 
-granted-both :
+granted_both :
     (bytes : List ℕ) (l : Layout) (steps : ℕ) → array_answer bytes l steps ≡ Ok tt → (array_limits l steps ≡ true) × (length bytes ≡ 512 * (l.blocks + rows_of l))
 unfolding array_answer
-granted-both bytes l steps e = grind (arith, nat_tests)
+granted_both bytes l steps e = grind (arith, nat_tests)
 
 module _ (bytes : List ℕ) (l : Layout) (steps : ℕ) (e : array_answer bytes l steps ≡ Ok tt) where
   pub granted_limits : array_limits l steps ≡ true
-  granted_limits = (granted-both bytes l steps e).0
+  granted_limits = (granted_both bytes l steps e).0
 
   pub granted_matched : length bytes ≡ 512 * (l.blocks + rows_of l)
-  granted_matched = (granted-both bytes l steps e).1
+  granted_matched = (granted_both bytes l steps e).1
 
   pub granted_loaded : rebuilt bytes l steps all_idle ≡ array_loaded bytes l steps
   unfolding array_loaded

@@ -15,12 +15,12 @@ use Rattle.bank.specs.Recording.{block_at}
 use Rattle.bank.specs.RecordingSound.{length_block_at}
 use Rattle.bank.specs.Undamaged.{SameButLost}
 use Rattle.bank.proofs.ArrayLoads.{granted_matched, granted_loaded, refused_empty}
-use Rattle.bank.proofs.Places.{place-agrees, get_or_block_at, get_or_restored}
+use Rattle.bank.proofs.Places.{place_agrees, get_or_block_at, get_or_restored}
 
 module _ (one other : List ℕ) (l : Layout) (alike : SameButLost one other l) where
   -- a place of another disk
   other_place : (r i j : ℕ) → i < 512 → j < l.disks → (j ≡ l.lost → ⊥) → place_byte one l r i j ≡ place_byte other l r i j
-  other_place r i j byte = place-agrees one other l r i (λ b k off. alike.same b i (λ _. off) byte) j
+  other_place r i j byte = place_agrees one other l r i (λ b k off. alike.same b i (λ _. off) byte) j
 
   one_more :
       (r i j : ℕ) → i < 512 → j < l.disks → restored_byte one l r i j ≡ restored_byte other l r i j → (j ≡ l.lost) ⊎ (j ≡ l.lost → ⊥) → restored_byte one l r i (suc j) ≡ restored_byte other l r i (suc j)

@@ -12,13 +12,13 @@ pub idle_fetch_below : (n : ℕ) → all_fetch_below n all_idle ≡ true
 unfolding all_fetch_below all_idle
 idle_fetch_below n = refl
 
-pub set-fetch-below :
+pub set_fetch_below :
     (n : ℕ) (ss : List DiskState) (d : ℕ) (s : DiskState) → all_fetch_below n ss ≡ true → fetches_below n s ≡ true → all_fetch_below n (set ss d s) ≡ true
 unfolding all_fetch_below
-set-fetch-below n [] d s all this = refl
-set-fetch-below n (x ∷ ss) zero s all this = and_from _ _ this (and_parts _ _ all).1
-set-fetch-below n (x ∷ ss) (suc d) s all this =
-    and_from _ _ (and_parts _ _ all).0 (set-fetch-below n ss d s (and_parts _ _ all).1 this)
+set_fetch_below n [] d s all this = refl
+set_fetch_below n (x ∷ ss) zero s all this = and_from _ _ this (and_parts _ _ all).1
+set_fetch_below n (x ∷ ss) (suc d) s all this =
+    and_from _ _ (and_parts _ _ all).0 (set_fetch_below n ss d s (and_parts _ _ all).1 this)
 
 lowered_fetch_below : (n : ℕ) (s : DiskState) → fetches_below n s ≡ true → fetches_below n (lowered s) ≡ true
 lowered_fetch_below n Idle h = refl
@@ -37,11 +37,11 @@ at_fetch_below n (s ∷ ss) zero all = (and_parts _ _ all).0
 at_fetch_below n (s ∷ ss) (suc d) all = at_fetch_below n ss d (and_parts _ _ all).1
 
 -- what lies ready is a block below n, and the buffer holds it
-ready-one :
+ready_one :
     (n : ℕ) (s : DiskState) (room b : ℕ) → fetches_below n s ≡ true → ready s room ≡ Ok b → (b < n) × (512 ≤ room)
-ready-one n Idle room b h e = grind arith
-ready-one n (Busy block left) room b h e = grind (arith, nat_tests)
+ready_one n Idle room b h e = grind arith
+ready_one n (Busy block left) room b h e = grind (arith, nat_tests)
 
-pub ready-below :
+pub ready_below :
     (n : ℕ) (ss : List DiskState) (d room b : ℕ) → all_fetch_below n ss ≡ true → ready (get_or ss d Idle) room ≡ Ok b → (b < n) × (512 ≤ room)
-ready-below n ss d room b all e = ready-one n (get_or ss d Idle) room b (at_fetch_below n ss d all) e
+ready_below n ss d room b all e = ready_one n (get_or ss d Idle) room b (at_fetch_below n ss d all) e

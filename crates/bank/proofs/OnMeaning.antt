@@ -18,10 +18,10 @@ module _ (m : Meaning) (b : ℕ) (disk : Option ℕ) (known : disk ≡ disk_of m
   unfolding start_answer
   start_answer_lem = judged ∙ ap (λ d. start_on d m.states) known
 
-  pub start-after :
+  pub start_after_lem :
       (now-states : List DiskState) → now-states ≡ cond (is_ok r) (begun disk b m.fetch m.states) m.states → having m now-states ≡ start_after m b
   unfolding start_after
-  start-after now-states e =
+  start_after_lem now-states e =
       ap (having m) (e ∙ (λ i. cond (is_ok (start_answer_lem i)) (begun (known i) b m.fetch m.states) m.states))
 
 -- what a start asks of the disk that it is given

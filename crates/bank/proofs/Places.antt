@@ -32,9 +32,9 @@ module _ (bytes : List ℕ) (l : Layout) (r i j : ℕ) where
       rw add-one (ap (cond (eqb j l.lost) x) (folded_past x (ltb (r * l.disks + j) l.blocks)))
 
 -- where two lists agree on the blocks of the other disks, so do the places of a row
-pub place-agrees :
+pub place_agrees :
     (one other : List ℕ) (l : Layout) (r i : ℕ) → ((b : ℕ) → b < l.blocks → (b % l.disks ≡ l.lost → ⊥) → byte_of one b i ≡ byte_of other b i) → (j : ℕ) → j < l.disks → (j ≡ l.lost → ⊥) → place_byte one l r i j ≡ place_byte other l r i j
-place-agrees one other l r i agree j h off = by_end (cases_lt (r * l.disks + j) l.blocks)
+place_agrees one other l r i agree j h off = by_end (cases_lt (r * l.disks + j) l.blocks)
   where
     by_end : (r * l.disks + j < l.blocks) ⊎ (l.blocks ≤ r * l.disks + j) → place_byte one l r i j ≡ place_byte other l r i j
     by_end (inl k) =
@@ -79,9 +79,9 @@ beyond_block block was size k h =
     ∙ (get_or-drop 512 was (k - 512) 0 ∙ ap (λ n. get_or was n 0) back)
 
 -- a buffer is told by its first 512 bytes and by what lies past them
-pub buffer-is :
+pub buffer_is :
     (block was then : List ℕ) → length block ≡ 512 → 512 ≤ length was → length then ≡ length was → ((k : ℕ) → k < 512 → get_or then k 0 ≡ get_or block k 0) → ((k : ℕ) → 512 ≤ k → get_or then k 0 ≡ get_or was k 0) → then ≡ block ++ drop 512 was
-buffer-is block was then size room same first rest =
+buffer_is block was then size room same first rest =
     let sizes : length then ≡ length (block ++ drop 512 was) = simp (length-append, length-drop) (omega arith) in
     ext_get_or 0 then (block ++ drop 512 was) sizes (λ i h. by_place i (cases_lt i 512))
   where

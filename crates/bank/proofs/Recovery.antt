@@ -12,7 +12,7 @@ use Rattle.bank.specs.Parity.{rows_of, byte_of, place_byte, row_byte, restored_b
 use Rattle.bank.specs.Recording.{block_at, blocks_of}
 use Rattle.bank.specs.RecordingSound.{length_blocks_of, get_or_blocks_of, length_block_at}
 use Rattle.bank.specs.Undamaged.{LeftOf}
-use Rattle.bank.proofs.Places.{place_there, place-agrees, get_or_block_at, get_or_restored, row_below}
+use Rattle.bank.proofs.Places.{place_there, place_agrees, get_or_block_at, get_or_restored, row_below}
 
 -- folded into both, a byte makes no difference
 xor_both : (f g x : ℕ) → bit_xor (bit_xor f x) (bit_xor g x) ≡ bit_xor f g
@@ -29,7 +29,7 @@ xor_cancel a p x e = sym (xor_undo a p) ∙ (ap (λ z. bit_xor z p) (e ∙ xor_c
 module _ (recording image : List ℕ) (l : Layout) (left : LeftOf recording image l) (r i : ℕ) (byte : i < 512) where
   -- of the other disks, a row has the recorded bytes
   other_place : (j : ℕ) → j < l.disks → (j ≡ l.lost → ⊥) → place_byte image l r i j ≡ place_byte recording l r i j
-  other_place = place-agrees image recording l r i (λ b k off. left.kept b i k off byte)
+  other_place = place_agrees image recording l r i (λ b k off. left.kept b i k off byte)
 
   abbrev parity_byte : ℕ
   parity_byte = byte_of image (l.blocks + r) i

@@ -34,9 +34,9 @@ length_rebuilt_block bytes l b h =
     cond_both (b % l.disks == l.lost) (restored_block bytes l (b / l.disks)) (block_at bytes b) (λ block. length block ≡ 512) (λ e. length_restored_block bytes l (b / l.disks)) (λ e. length_block_at bytes b h)
 
 module _ (bytes : List ℕ) (l : Layout) (steps : ℕ) (now-states : List DiskState) where
-  pub array-sound :
+  pub array_sound :
       length now-states ≡ 8 → 0 < l.disks → l.disks ≤ 8 → length bytes ≡ 512 * (l.blocks + rows_of l) → Sound (rebuilt bytes l steps now-states)
-  array-sound eight some few matched = record {
+  array_sound eight some few matched = record {
     eight = eight;
     paired = length_spread l ∙ sym (length_rebuilt_blocks bytes l);
     placed = λ b h.

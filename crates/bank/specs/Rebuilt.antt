@@ -1,7 +1,7 @@
 -- What a rebuilt bank is.
 use Rattle.bank.specs.declared.rebuilt.RebuiltBank.{RebuiltBank}
 use Rattle.bank.specs.Array.{rebuilt}
-use Rattle.bank.specs.ArraySound.{array-sound}
+use Rattle.bank.specs.ArraySound.{array_sound}
 use Rattle.bank.specs.Meaning.{Meaning, Sound}
 
 abbrev pub rebuilt_meaning : RebuiltBank → Meaning
@@ -9,4 +9,4 @@ rebuilt_meaning s = rebuilt s.image.now s.layout s.drives.fetch s.drives.list
 
 pub rebuilt_sound : (s : RebuiltBank) → Sound (rebuilt_meaning s)
 rebuilt_sound s =
-    array-sound s.image.now s.layout s.drives.fetch s.drives.list s.drives.eight s.some s.few s.matched
+    array_sound s.image.now s.layout s.drives.fetch s.drives.list s.drives.eight s.some s.few s.matched

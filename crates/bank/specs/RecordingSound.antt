@@ -16,9 +16,9 @@ pub length_block_at : (bytes : List ℕ) (b : ℕ) → 512 * b + 512 ≤ length 
 length_block_at bytes b h = simp (length-take, length-drop) (omega arith)
 
 module _ (bytes places : List ℕ) (steps : ℕ) (now-states : List DiskState) where
-  pub recorded-sound :
+  pub recorded_sound :
       length now-states ≡ 8 → length bytes ≡ 512 * length places → ((b : ℕ) → b < length places → slice_index places b < 8) → Sound (recorded bytes places steps now-states)
-  recorded-sound eight matched placed = record {
+  recorded_sound eight matched placed = record {
     eight = eight;
     paired = sym (length_blocks_of bytes (length places));
     placed = λ b h. placed b (rw (length_blocks_of bytes (length places)) at h);

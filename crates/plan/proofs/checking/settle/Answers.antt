@@ -9,6 +9,6 @@ returns g c =
     record {
       answer = answer_is _ _ _ c.judge.ensures.outcome;
       slots = slots_are _ l.len l.slots.now c.args.list.now.slots.now _ l.fits c.judge.ensures.outcome c.judge.ensures.later;
-      exact = checks_exactly g.S.Lane.side (meant c.args.sheet) _ c.args.plan.now (rack_fit c.args.sheet.rack.now) (λ i m. omega (arith, c.type-inv.plan i));
+      exact = checks_exactly g.S.Lane.side (meant c.args.sheet) _ c.args.plan.now (rack_fit c.args.sheet.rack.now) (λ i m. omega (arith, c.type_inv.plan i));
       lent = c.judge.ensures.lent;
     }

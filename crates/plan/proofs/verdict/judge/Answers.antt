@@ -27,8 +27,8 @@ loop-reader-init g c =
 pub step-requires : goal.step-requires
 step-requires g c = c.loop-reader.invariant.0
 
-pub returns-in-err-reader : goal.returns-in-err-reader
-returns-in-err-reader g c =
+pub returns-in_err-reader : goal.returns-in_err-reader
+returns-in_err-reader g c =
     let side = g.S.Lane.side in
     let sheet = meant c.args.sheet in
     let bytes = c.args.bytes.now in
@@ -37,15 +37,15 @@ returns-in-err-reader g c =
     let inv = c.loop-reader.invariant in
     let rest = c.loop-reader.reader.rest.now in
     let s = whole c.loop-reader.track (take l.len l.slots.now) in
-    let f = c.in-err-reader.field-0.0 in
+    let f = c.in_err-reader.field-0.0 in
     let room = length l.slots.now in
     let incomplete = sym (c.loop-reader-test.ensures (take l.len l.slots.now)) in
-    let told = c.in-err-reader.ensures.answer in
+    let told = c.in_err-reader.ensures.answer in
     let stop = stops_here side sheet room (length bytes) c.loop-reader.reader.total s rest _ inv.5 f incomplete told in
-    let residual = err_from_is_err_and c.from-residual.result c.from-residual.ensures.1 in
+    let residual = err_from_is_err_and c.from_residual.result c.from_residual.ensures.1 in
     let kept = c.step.ensures.after ∙ ap (step_left s) (halted _ f told) in
     record {
-      outcome = answers_err c.from-residual.result _ f s (whole c.step.new.self (take k.len k.slots.now)) _ residual.1 residual.2 kept (stop ∙ ap (λ (n : ℕ). verdict_for side sheet n bytes) inv.2);
+      outcome = answers_err c.from_residual.result _ f s (whole c.step.new.self (take k.len k.slots.now)) _ residual.1 residual.2 kept (stop ∙ ap (λ (n : ℕ). verdict_for side sheet n bytes) inv.2);
       room = c.step.ensures.room ∙ inv.2;
       later = kept_on l.len k.len l.slots.now k.slots.now c.args.list.now.slots.now c.step.ensures.grows inv.3 c.step.ensures.later;
       lent = c.step.ensures.lent ∙ inv.4;
@@ -60,10 +60,10 @@ loop-reader-preserved g c =
     let k = c.step.new.list in
     let inv = c.loop-reader.invariant in
     let rest = c.loop-reader.reader.rest.now in
-    let more = c.in-ok-reader.reader.rest.now in
+    let more = c.in_ok-reader.reader.rest.now in
     let s = whole c.loop-reader.track (take l.len l.slots.now) in
     let t = whole c.step.new.self (take k.len k.slots.now) in
-    let told = c.in-ok-reader.ensures in
+    let told = c.in_ok-reader.ensures in
     let room = length l.slots.now in
     let incomplete = sym (c.loop-reader-test.ensures (take l.len l.slots.now)) in
     let long : length rest ≤ length bytes = omega (arith, inv.0, inv.1) in
@@ -74,7 +74,7 @@ loop-reader-preserved g c =
       told.room ∙ inv.2,
       kept_on l.len k.len l.slots.now k.slots.now c.args.list.now.slots.now told.grows inv.3 told.later,
       told.lent ∙ inv.4,
-      subst (λ (n : ℕ). run_for side sheet n (suc (length bytes)) c.in-ok-reader.reader.total t more ≡ verdict_for side sheet n bytes) (sym told.room) (subst (λ (n : ℕ). run_for side sheet room (suc (length bytes)) n t more ≡ verdict_for side sheet room bytes) (sym total) on),
+      subst (λ (n : ℕ). run_for side sheet n (suc (length bytes)) c.in_ok-reader.reader.total t more ≡ verdict_for side sheet n bytes) (sym told.room) (subst (λ (n : ℕ). run_for side sheet room (suc (length bytes)) n t more ≡ verdict_for side sheet room bytes) (sym total) on),
     )
 
 pub returns : goal.returns

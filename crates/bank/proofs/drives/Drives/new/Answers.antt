@@ -3,9 +3,9 @@ use Rattle.bank.specs.Fetching.{all_fetch_below}
 use Rattle.bank.specs.Meaning.{all_idle}
 use Rattle.bank.proofs.drives.Drives.new.Goals as goal
 
-pub invariant-of-result : goal.invariant-of-result
+pub invariant_of-result : goal.invariant_of-result
 unfolding all_fetch_below
-invariant-of-result c = (refl, (refl, tt))
+invariant_of-result c = record { eight = refl; there = refl }
 
 pub returns : goal.returns
 unfolding all_idle

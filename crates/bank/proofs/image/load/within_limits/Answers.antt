@@ -3,10 +3,10 @@ use Rattle.std.proofs.lemmas.Bool.Decides.{nat_tests}
 use Rattle.bank.specs.RecordingLoad.{recording_limits}
 use Rattle.bank.proofs.image.load.within_limits.Goals as goal
 
-pub returns-then-fetch-fits : goal.returns-then-fetch-fits
+pub returns-then-fetch_fits : goal.returns-then-fetch_fits
 unfolding recording_limits
-returns-then-fetch-fits c = grind (arith, nat_tests)
+returns-then-fetch_fits c = grind (arith, nat_tests)
 
-pub returns-else-fetch-fits : goal.returns-else-fetch-fits
+pub returns-else-fetch_fits : goal.returns-else-fetch_fits
 unfolding recording_limits
-returns-else-fetch-fits c = grind (arith, nat_tests)
+returns-else-fetch_fits c = grind (arith, nat_tests)

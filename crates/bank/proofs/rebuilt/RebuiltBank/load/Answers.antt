@@ -12,12 +12,12 @@ use Rattle.bank.proofs.rebuilt.RebuiltBank.load.Goals as goal
 never_both : {r : Result (Unit {0}) BankFault} {f : BankFault} → r ≡ Err f → r ≡ Ok tt → ⊥
 never_both p q = let z : ◌≡◌ {A = ℕ} 0 1 = cc in omega arith
 
-pub returns-in-err-judge : goal.returns-in-err-judge
-returns-in-err-judge c =
-    let told = c.in-err-judge.ensures in
-    let p = err_from_is_err_and c.from-residual.result c.from-residual.ensures.1 in
+pub returns-in_err-judge : goal.returns-in_err-judge
+returns-in_err-judge c =
+    let told = c.in_err-judge.ensures in
+    let p = err_from_is_err_and c.from_residual.result c.from_residual.ensures.1 in
     let loaded =
-    c.empty.ensures ∙ refused_empty c.args.image.now c.args.layout c.args.fetch c.in-err-judge.field-0.0 (sym told) in
+    c.empty.ensures ∙ refused_empty c.args.image.now c.args.layout c.args.fetch c.in_err-judge.field-0.0 (sym told) in
     record {
       answer = p.1 ∙ (ap Err p.2 ∙ told);
       after = loaded;
@@ -26,24 +26,24 @@ returns-in-err-judge c =
       whole = λ recording granted size same. absurd (never_both p.1 granted);
     }
 
-pub invariant-of-self : goal.invariant-of-self
-invariant-of-self c =
+pub invariant_of-self : goal.invariant_of-self
+invariant_of-self c =
     let image = c.args.image.now in
     let layout = c.args.layout in
-    let granted = sym c.in-ok-judge.ensures in
-    let limits = granted_limits image layout c.args.fetch granted in (
-      c.new-self.ensures.0,
-      (
-        limits_some layout c.args.fetch limits,
-        (limits_eight layout c.args.fetch limits, (granted_matched image layout c.args.fetch granted, tt)),
-      ),
-    )
+    let granted = sym c.in_ok-judge.ensures in
+    let limits = granted_limits image layout c.args.fetch granted in
+    record {
+      counted = c.new-self.ensures.0;
+      some = limits_some layout c.args.fetch limits;
+      few = limits_eight layout c.args.fetch limits;
+      matched = granted_matched image layout c.args.fetch granted;
+    }
 
 pub returns : goal.returns
 returns c =
     let image = c.args.image.now in
     let layout = c.args.layout in
-    let told = c.in-ok-judge.ensures in
+    let told = c.in_ok-judge.ensures in
     let fresh = c.new-self.ensures in
     let loaded =
     ap (λ f. rebuilt image layout f c.new-self.result.list) fresh.1.0

@@ -4,23 +4,23 @@ use Rattle.bank.specs.ArrayLoad.{array_answer}
 use Rattle.bank.proofs.ArrayLoads.{rows_few, limits_some, limits_eight}
 use Rattle.bank.proofs.rebuilt.load.judge.Goals as goal
 
-pub returns-then-not-within-limits : goal.returns-then-not-within-limits
+pub returns-then-not-within_limits : goal.returns-then-not-within_limits
 unfolding array_answer
-returns-then-not-within-limits c = grind (arith, nat_tests)
+returns-then-not-within_limits c = grind (arith, nat_tests)
 
 pub rows-requires : goal.rows-requires
-rows-requires c = limits_some c.args.layout c.args.fetch (sym c.if-not-within-limits.ensures)
+rows-requires c = limits_some c.args.layout c.args.fetch (sym c.if-not-within_limits.ensures)
 
-pub overflow-add-from : goal.overflow-add-from
-overflow-add-from c =
+pub overflow_add-from : goal.overflow_add-from
+overflow_add-from c =
     let few = rows_few c.args.layout in
-    let eight = limits_eight c.args.layout c.args.fetch (sym c.if-not-within-limits.ensures) in
+    let eight = limits_eight c.args.layout c.args.fetch (sym c.if-not-within_limits.ensures) in
     search rules
 
-pub overflow-mul-from : goal.overflow-mul-from
-overflow-mul-from c =
+pub overflow_mul-from : goal.overflow_mul-from
+overflow_mul-from c =
     let few = rows_few c.args.layout in
-    let eight = limits_eight c.args.layout c.args.fetch (sym c.if-not-within-limits.ensures) in
+    let eight = limits_eight c.args.layout c.args.fetch (sym c.if-not-within_limits.ensures) in
     search rules
 
 pub returns-then-image-from : goal.returns-then-image-from

@@ -10,7 +10,7 @@ restore-requires c =
     let layout = c.args.layout in
     let block = c.args.block in
     let row : block / c.from-disks.result ≡ block / layout.disks = ap (λ d. block / d) c.from-disks.ensures in
-    let low : block / layout.disks < rows_of layout = row_below layout block c.requires.0.0 c.requires.0.1 in
+    let low : block / layout.disks < rows_of layout = row_below layout block c.requires.disks_nonzero.0 c.requires.disks_nonzero.1 in
     (omega arith, omega arith)
 
 pub returns-then-block-disks : goal.returns-then-block-disks
@@ -35,6 +35,6 @@ returns-else-block-disks c =
     let lost = c.from.ensures in
     let off : block % layout.disks ≡ layout.lost → ⊥ =
     λ e. c.if-block-disks.false (ap (λ d. block % d) disks ∙ (e ∙ sym lost)) in
-    c.copy-block.ensures
+    c.copy_block.ensures
     ∙ (ap (λ b. block_at image b ++ drop 512 c.args.buffer.now) c.from-else-block-disks.ensures
     ∙ ap (λ bs. bs ++ drop 512 c.args.buffer.now) (sym (cond-false _ _ _ (ne_eqb _ _ off))))

@@ -12,8 +12,8 @@ pub returns : goal.returns
 unfolding after
 returns c =
     let sheet = meant c.args.sheet in
-    let frames = c.frames.ensures.frames in
-    let blocks = c.blocks-2.ensures.blocks in
+    let frames = c.frames.ensures.frames ∙ ap (λ (r : Rack). r.frames) c.rack.ensures in
+    let blocks = c.blocks-2.ensures.blocks ∙ ap (λ (r : Rack). length r.homes) c.rack-2.ensures in
     let few : c.args.self.now.opened < sheet.rack.frames = omega (arith, frames, c.from.ensures, c.if-self-from.false) in
     let above : c.args.self.now.floor ≤ c.args.block = omega (arith, c.if-at-self.false) in
     let there : c.args.block < length sheet.rack.homes = omega (arith, blocks, c.if-at-blocks.false) in

@@ -33,12 +33,12 @@ take-answer-requires g c =
     let place = total - length rest in
     let admits = c.admit.ensures ∙ (λ i. admitted s.phase (c.found-found.ensures i) total (c.place-place.ensures i) (c.left-left.ensures i)) in
     let at = c.place-place.ensures in
-    let let-in = lets side sheet room total s rest c.in-ok-command.command (sym (told_ok total c.place-place.result c.admit.result _ c.in-ok-command.ensures) ∙ admits) in
-    let bytes = size c.in-ok-command.command in
+    let let-in = lets side sheet room total s rest c.in_ok-command.command (sym (told_ok total c.place-place.result c.admit.result _ c.in_ok-command.ensures) ∙ admits) in
+    let bytes = size c.in_ok-command.command in
     small total place bytes s.boundary let-in.within (omega (arith, c.requires)) (omega (arith, c.requires, let-in.there))
 
-pub returns-in-err-command : goal.returns-in-err-command
-returns-in-err-command g c =
+pub returns-in_err-command : goal.returns-in_err-command
+returns-in_err-command g c =
     let l = c.args.list.now in
     let side = g.S.Lane.side in
     let sheet = meant c.args.sheet in
@@ -49,9 +49,9 @@ returns-in-err-command g c =
     let place = total - length rest in
     let admits = c.admit.ensures ∙ (λ i. admitted s.phase (c.found-found.ensures i) total (c.place-place.ensures i) (c.left-left.ensures i)) in
     let at = c.place-place.ensures in
-    let why = told_err total place c.admit.result c.in-err-command.field-0.0 (c.in-err-command.ensures ∙ ap (λ (p : ℕ). told_of total p c.admit.result) at) in
+    let why = told_err total place c.admit.result c.in_err-command.field-0.0 (c.in_err-command.ensures ∙ ap (λ (p : ℕ). told_of total p c.admit.result) at) in
     let stop = refused side sheet room total s rest why.0 (sym why.1 ∙ admits) in
-    let residual = err_from_is_err_and c.from-residual.result c.from-residual.ensures.1 in
+    let residual = err_from_is_err_and c.from_residual.result c.from_residual.ensures.1 in
     record {
       answer = ap stepped residual.1 ∙ ap Err (residual.2 ∙ why.2) ∙ sym (ap step_answer stop);
       after = sym (ap (step_left s) stop);
@@ -62,8 +62,8 @@ returns-in-err-command g c =
       lent = refl;
     }
 
-pub returns-in-err-told : goal.returns-in-err-told
-returns-in-err-told g c =
+pub returns-in_err-told : goal.returns-in_err-told
+returns-in_err-told g c =
     let l = c.args.list.now in
     let side = g.S.Lane.side in
     let sheet = meant c.args.sheet in
@@ -74,11 +74,11 @@ returns-in-err-told g c =
     let place = total - length rest in
     let admits = c.admit.ensures ∙ (λ i. admitted s.phase (c.found-found.ensures i) total (c.place-place.ensures i) (c.left-left.ensures i)) in
     let at = c.place-place.ensures in
-    let let-in = lets side sheet room total s rest c.in-ok-command.command (sym (told_ok total c.place-place.result c.admit.result _ c.in-ok-command.ensures) ∙ admits) in
-    let why = told_err total place c.take-answer.result c.in-err-told.field-0.0 (c.in-err-told.ensures ∙ ap (λ (p : ℕ). told_of total p c.take-answer.result) at) in
+    let let-in = lets side sheet room total s rest c.in_ok-command.command (sym (told_ok total c.place-place.result c.admit.result _ c.in_ok-command.ensures) ∙ admits) in
+    let why = told_err total place c.take-answer.result c.in_err-told.field-0.0 (c.in_err-told.ensures ∙ ap (λ (p : ℕ). told_of total p c.take-answer.result) at) in
     let found = faulty_by _ why.0 (sym why.1 ∙ c.take-answer.ensures.answer) in
-    let stop = faults side sheet room total s rest c.in-ok-command.command why.0 let-in found in
-    let residual = err_from_is_err_and c.from-residual-in-err-told.result c.from-residual-in-err-told.ensures.1 in
+    let stop = faults side sheet room total s rest c.in_ok-command.command why.0 let-in found in
+    let residual = err_from_is_err_and c.from_residual-in_err-told.result c.from_residual-in_err-told.ensures.1 in
     record {
       answer = ap stepped residual.1 ∙ ap Err (residual.2 ∙ why.2) ∙ sym (ap step_answer stop);
       after = c.take-answer.ensures.after ∙ ap (left_by s _) found ∙ sym (ap (step_left s) stop);
@@ -101,7 +101,7 @@ past-requires g c =
     let place = total - length rest in
     let admits = c.admit.ensures ∙ (λ i. admitted s.phase (c.found-found.ensures i) total (c.place-place.ensures i) (c.left-left.ensures i)) in
     let at = c.place-place.ensures in
-    let let-in = lets side sheet room total s rest c.in-ok-command.command (sym (told_ok total c.place-place.result c.admit.result _ c.in-ok-command.ensures) ∙ admits) in
+    let let-in = lets side sheet room total s rest c.in_ok-command.command (sym (told_ok total c.place-place.result c.admit.result _ c.in_ok-command.ensures) ∙ admits) in
     let-in.there
 
 pub returns : goal.returns
@@ -116,9 +116,9 @@ returns g c =
     let place = total - length rest in
     let admits = c.admit.ensures ∙ (λ i. admitted s.phase (c.found-found.ensures i) total (c.place-place.ensures i) (c.left-left.ensures i)) in
     let at = c.place-place.ensures in
-    let let-in = lets side sheet room total s rest c.in-ok-command.command (sym (told_ok total c.place-place.result c.admit.result _ c.in-ok-command.ensures) ∙ admits) in
-    let command = c.in-ok-command.command in
-    let found = clean_by _ (sym (told_ok total c.place-place.result c.take-answer.result _ c.in-ok-told.ensures) ∙ c.take-answer.ensures.answer) in
+    let let-in = lets side sheet room total s rest c.in_ok-command.command (sym (told_ok total c.place-place.result c.admit.result _ c.in_ok-command.ensures) ∙ admits) in
+    let command = c.in_ok-command.command in
+    let found = clean_by _ (sym (told_ok total c.place-place.result c.take-answer.result _ c.in_ok-told.ensures) ∙ c.take-answer.ensures.answer) in
     let on = goes side sheet room total s rest command let-in found in
     let after = c.take-answer.ensures.after ∙ ap (left_by s _) found in
     let left = c.past.ensures.rest in

@@ -14,17 +14,17 @@ use Rattle.records.proofs.Pushes.{full_by, room_by}
 use Rattle.plan.proofs.Traded.{faulty_by, clean_by, stop_is, kept_state, one_more, same_later, with_room, started_is}
 use Rattle.plan.proofs.track.Track.trade.Goals as goal
 
-pub returns-in-err-may-trade : goal.returns-in-err-may-trade
-returns-in-err-may-trade g c =
+pub returns-in_err-may_trade : goal.returns-in_err-may_trade
+returns-in_err-may_trade g c =
     let l = c.args.list.now in
     let side = g.S.Lane.side in
     let sheet = meant c.args.sheet in
     let room = length l.slots.now in
     let xs = take l.len l.slots.now in
     let s = whole c.args.self.now xs in
-    let e = c.in-err-may-trade.field-0.0 in
-    let answer = subst (λ (x : Exchange). Err e ≡ answered (first (tests_for side sheet room s (Trades x.brings x.sends)))) c.exchange-exchange.ensures (c.in-err-may-trade.ensures.answer room xs) in
-    let told = err_from_is_err_and c.from-residual.result c.from-residual.ensures.1 in
+    let e = c.in_err-may_trade.field-0.0 in
+    let answer = subst (λ (x : Exchange). Err e ≡ answered (first (tests_for side sheet room s (Trades x.brings x.sends)))) c.exchange-exchange.ensures (c.in_err-may_trade.ensures.answer room xs) in
+    let told = err_from_is_err_and c.from_residual.result c.from_residual.ensures.1 in
     let f = faulty_by _ e answer in
     record {
       answer = told.1 ∙ ap Err told.2 ∙ answer;
@@ -35,8 +35,8 @@ returns-in-err-may-trade g c =
       lent = refl;
     }
 
-pub returns-in-err-push : goal.returns-in-err-push
-returns-in-err-push g c =
+pub returns-in_err-push : goal.returns-in_err-push
+returns-in_err-push g c =
     let l = c.args.list.now in
     let side = g.S.Lane.side in
     let sheet = meant c.args.sheet in
@@ -45,10 +45,10 @@ returns-in-err-push g c =
     let xs = take l.len slots in
     let s = whole c.args.self.now xs in
     let long = length-take-le l.len slots l.fits in
-    let full : ltb l.len room ≡ false = full_by _ _ _ _ (sym c.push.ensures.answer ∙ c.in-err-push.was) in
-    let judged = subst (λ (x : Exchange). if_room (ltb (length xs) room) (Ok tt) ≡ answered (first (tests_for side sheet room s (Trades x.brings x.sends)))) c.exchange-exchange.ensures (c.in-ok-may-trade.ensures.answer room xs) in
+    let full : ltb l.len room ≡ false = full_by _ _ _ _ (sym c.push.ensures.answer ∙ c.in_err-push.was) in
+    let judged = subst (λ (x : Exchange). if_room (ltb (length xs) room) (Ok tt) ≡ answered (first (tests_for side sheet room s (Trades x.brings x.sends)))) c.exchange-exchange.ensures (c.in_ok-may_trade.ensures.answer room xs) in
     let answer = with_room false xs l.len room (Ok tt) _ long full refl judged in
-    let told = err_from_is_err_and c.from-residual-in-err-push.result c.from-residual-in-err-push.ensures.1 in
+    let told = err_from_is_err_and c.from_residual-in_err-push.result c.from_residual-in_err-push.ensures.1 in
     let f = faulty_by _ _ answer in
     let same_len = c.push.ensures.len ∙ cond-false _ _ _ full in
     let same_slots = c.push.ensures.slots ∙ set_past _ _ _ (ltb-false _ _ full) in
@@ -74,16 +74,16 @@ returns g c =
     let k = c.push.new.self in
     let x = c.exchange-exchange.ensures in
     let long = length-take-le l.len slots l.fits in
-    let roomy : ltb l.len room ≡ true = room_by _ _ _ _ (sym c.push.ensures.answer ∙ c.in-ok-push.was) in
+    let roomy : ltb l.len room ≡ true = room_by _ _ _ _ (sym c.push.ensures.answer ∙ c.in_ok-push.was) in
     let inside = ltb-true l.len room roomy in
-    let judged = subst (λ (y : Exchange). if_room (ltb (length xs) room) (Ok tt) ≡ answered (first (tests_for side sheet room s (Trades y.brings y.sends)))) x (c.in-ok-may-trade.ensures.answer room xs) in
+    let judged = subst (λ (y : Exchange). if_room (ltb (length xs) room) (Ok tt) ≡ answered (first (tests_for side sheet room s (Trades y.brings y.sends)))) x (c.in_ok-may_trade.ensures.answer room xs) in
     let answer = with_room true xs l.len room (Ok tt) _ long roomy refl judged in
     let f = clean_by _ answer in
     let more = c.push.ensures.len ∙ cond-true _ _ _ roomy in
-    let fetch = c.fetch.ensures.fetch in
-    let disk = c.home.ensures.disk ∙ ap (λ (b : ℕ). get_or sheet.rack.homes b 0) (c.carrier.ensures ∙ ap (λ (y : Exchange). carrier side y) x) in
+    let fetch = c.fetch.ensures.fetch ∙ ap (λ (r : Rack). r.fetch) c.rack-rack.ensures in
+    let disk = c.home.ensures.disk ∙ ap (λ (r : Rack). get_or r.homes c.carrier.result 0) c.rack-rack.ensures ∙ ap (λ (b : ℕ). get_or sheet.rack.homes b 0) (c.carrier.ensures ∙ ap (λ (y : Exchange). carrier side y) x) in
     let ys = one_more l.len k.len slots k.slots.now _ more c.push.ensures.slots inside ∙ ap (λ (y : Exchange). xs ++ y ∷ []) x in
-    let noted = c.note-trade.ensures (take k.len k.slots.now) ∙ (λ i. started (whole t (ys i)) (x i).brings (x i).sends c.home.result c.fetch.result) in
+    let noted = c.note_trade.ensures (take k.len k.slots.now) ∙ (λ i. started (whole t (ys i)) (x i).brings (x i).sends c.home.result c.fetch.result) in
     record {
       answer = answer;
       after = started_is side sheet room s c.args.brings c.args.sends _ _ _ fetch disk noted ∙ sym (ap (left_by s _) f);

@@ -8,11 +8,11 @@ use Rattle.sheet.proofs.Fronts.{whole_name, shorter}
 use Rattle.sheet.proofs.Turns.{turn_none, turn_place, turn_broken, turn_taken, granted, denied, remains}
 use Rattle.sheet.proofs.draft.Draft.step.Goals as goal
 
-pub returns-in-default : goal.returns-in-default
-returns-in-default c =
+pub returns-in_default : goal.returns-in_default
+returns-in_default c =
     let l = c.args.list.now in
     let s = so_far c.args.self.now l.len l.slots.now in
-    let none : length c.args.rest.now ≡ 0 = omega (arith, ltb-false _ _ (sym c.in-default.ensures.item.0)) in
+    let none : length c.args.rest.now ≡ 0 = omega (arith, ltb-false _ _ (sym c.in_default.ensures.item.0)) in
     let is = turn_none c.args.total c.args.rest.now s none in
     record { answer = sym (ap turn_answer is); shorter = λ x. x; after = sym (ap (turn_left s) is); lent = search rules }
 
@@ -26,21 +26,21 @@ returns-then-not-takes c =
     let is = turn_place c.args.total r s some (ap (takes s.stage) (sym letter) ∙ sym c.if-not-takes.ensures) in
     record { answer = sym (ap turn_answer is); shorter = λ x. x; after = sym (ap (turn_left s) is); lent = search rules }
 
-pub returns-in-default-front : goal.returns-in-default-front
-returns-in-default-front c =
+pub returns-in_default-front : goal.returns-in_default-front
+returns-in_default-front c =
     let l = c.args.list.now in
     let s = so_far c.args.self.now l.len l.slots.now in
     let r = c.args.rest.now in
     let some : 0 < length r = c.in-Some.ensures.item.3.0 in
     let letter = get_or_read r 0 c.in-Some.letter.now some c.in-Some.ensures.item.1 0 in
-    let is = turn_broken c.args.total r s some (ap (takes s.stage) (sym letter) ∙ sym c.if-not-takes.ensures) (sym c.in-default-front.ensures) in
+    let is = turn_broken c.args.total r s some (ap (takes s.stage) (sym letter) ∙ sym c.if-not-takes.ensures) (sym c.in_default-front.ensures) in
     record { answer = sym (ap turn_answer is); shorter = λ x. x; after = sym (ap (turn_left s) is); lent = search rules }
 
-pub take-placed-requires : goal.take-placed-requires
-take-placed-requires c = whole_name c.args.rest.now _ _ (sym c.in-Some-front.ensures)
+pub take_placed-requires : goal.take_placed-requires
+take_placed-requires c = whole_name c.args.rest.now _ _ (sym c.in-Some-front.ensures)
 
-pub returns-in-err-take-placed : goal.returns-in-err-take-placed
-returns-in-err-take-placed c =
+pub returns-in_err-take_placed : goal.returns-in_err-take_placed
+returns-in_err-take_placed c =
     let l = c.args.list.now in
     let s = so_far c.args.self.now l.len l.slots.now in
     let r = c.args.rest.now in
@@ -48,8 +48,8 @@ returns-in-err-take-placed c =
     let letter = get_or_read r 0 c.in-Some.letter.now some c.in-Some.ensures.item.1 0 in
     let t = took (said c.in-Some-front.command) s in
     let is = turn_taken c.args.total r s some (ap (takes s.stage) (sym letter) ∙ sym c.if-not-takes.ensures) _ _ (sym c.in-Some-front.ensures) in
-    let told = err_from_is_err_and c.from-residual.result c.from-residual.ensures.1 in
-    record { answer = rw (told.1, told.2) (denied _ _ t _ (sym c.take-placed.ensures.answer ∙ c.in-err-take-placed.was) ∙ sym (ap turn_answer is)); shorter = rw told.1 (λ x. x); after = c.take-placed.ensures.after ∙ remains _ _ s t ∙ sym (ap (turn_left s) is); lent = search rules }
+    let told = err_from_is_err_and c.from_residual.result c.from_residual.ensures.1 in
+    record { answer = rw (told.1, told.2) (denied _ _ t _ (sym c.take_placed.ensures.answer ∙ c.in_err-take_placed.was) ∙ sym (ap turn_answer is)); shorter = rw told.1 (λ x. x); after = c.take_placed.ensures.after ∙ remains _ _ s t ∙ sym (ap (turn_left s) is); lent = search rules }
 
 pub returns : goal.returns
 returns c =
@@ -61,8 +61,8 @@ returns c =
     let t = took (said c.in-Some-front.command) s in
     let is = turn_taken c.args.total r s some (ap (takes s.stage) (sym letter) ∙ sym c.if-not-takes.ensures) _ _ (sym c.in-Some-front.ensures) in
     record {
-      answer = granted _ _ t (sym c.take-placed.ensures.answer ∙ c.in-ok-take-placed.was) ∙ sym (ap turn_answer is);
+      answer = granted _ _ t (sym c.take_placed.ensures.answer ∙ c.in_ok-take_placed.was) ∙ sym (ap turn_answer is);
       shorter = shorter r _ _ (sym c.in-Some-front.ensures);
-      after = c.take-placed.ensures.after ∙ remains _ _ s t ∙ sym (ap (turn_left s) is);
+      after = c.take_placed.ensures.after ∙ remains _ _ s t ∙ sym (ap (turn_left s) is);
       lent = search rules;
     }

@@ -2,10 +2,10 @@
 
 #![tactic(auto)]
 
-use anyhow::anyhow;
 use backread::{Fault, Sheet, SheetReading};
 use std::io;
 use std::io::{Read, Write};
+use std::process::ExitCode;
 
 // As many requests as a sheet may have.
 const MOST_REQUESTS: usize = 4096;
@@ -55,10 +55,10 @@ fn run(rt: &HostRuntime) -> anyhow::Result<bool> {
     Ok(tell(rt, &reading)?)
 }
 
-fn main(rt: HostRuntime) -> anyhow::Result<()> {
+fn main(rt: HostRuntime) -> anyhow::Result<ExitCode> {
     if run(&rt)? {
-        Ok(())
+        Ok(ExitCode::SUCCESS)
     } else {
-        Err(anyhow!("the sheet was refused"))
+        Ok(ExitCode::FAILURE) // the refusal's line has said all
     }
 }

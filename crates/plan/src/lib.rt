@@ -22,4 +22,4 @@ pub use checking::check;
 pub use counts::Counts;
 pub use fault::PlanFault;
 pub use receipt::Receipt;
-pub use side::{Backward, Forward, Heading, Lane, Side};
+pub use side::{Backward, Forward, Headed, Heading, Lane, Side};

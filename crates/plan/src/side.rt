@@ -19,9 +19,6 @@ pub trait Lane {
 
     fn carrier(exchange: Exchange) -> u16
         ensures { result ≡ carrier side exchange };
-
-    fn heading() -> Heading
-        ensures { side_of result ≡ side };
 }
 
 // A side, with its opposite. The opposite's lane is the lane of the other side.
@@ -43,10 +40,6 @@ impl Lane for Forward {
     fn carrier(exchange: Exchange) -> u16 {
         exchange.brings
     }
-
-    fn heading() -> Heading {
-        Heading::Forward
-    }
 }
 
 impl Lane for Backward {
@@ -54,10 +47,6 @@ impl Lane for Backward {
 
     fn carrier(exchange: Exchange) -> u16 {
         exchange.sends
-    }
-
-    fn heading() -> Heading {
-        Heading::Backward
     }
 }
 
@@ -71,4 +60,22 @@ impl Side for Backward {
     type Opposite = Forward;
 
     ghost across = { Prim.search rules };
+}
+
+// A side that a program can also hold as a value.
+pub trait Headed: Lane {
+    fn heading() -> Heading
+        ensures { side_of result ≡ Self.Lane.side };
+}
+
+impl Headed for Forward {
+    fn heading() -> Heading {
+        Heading::Forward
+    }
+}
+
+impl Headed for Backward {
+    fn heading() -> Heading {
+        Heading::Backward
+    }
 }

@@ -1,11 +1,10 @@
 -- The questions that a rule can ask, each answered by the one thing it means.
-use Rattle.std.proofs.Common.{◌≡◌, ℕ, zero, suc, ◌+◌, ◌-◌, ◌<◌, ◌≤◌, Bool, true, false, cond, not, ◌&&◌, eqb, ltb, ◌⊎◌, List, [], ◌∷◌, length, get_or, drop, sym, refl, ap, ◌∙◌, subst, inl, inr, arith}
+use Rattle.std.proofs.Common.{◌≡◌, ℕ, zero, suc, ◌+◌, ◌-◌, ◌<◌, ◌≤◌, Bool, true, false, cond, ◌&&◌, ltb, ◌⊎◌, List, [], ◌∷◌, length, get_or, drop, sym, refl, ap, ◌∙◌, subst, inl, inr, arith}
 use Rattle.std.proofs.lemmas.List.{length-drop, get_or-drop}
-use Rattle.std.proofs.lemmas.Bool.{false≢true, both_ways, ltb-true, ltb-false, and_parts, and_from, cases_order, cases_eq, cases_lt}
+use Rattle.std.proofs.lemmas.Bool.{false≢true, both_ways, ltb-true, ltb-false, and_parts, and_from, cases_order, cases_eq}
 use Rattle.model.specs.Timetable.{Forward}
-use Rattle.model.specs.View.{Option, None, Some, View, Absent, Resident, blocks, may_go_out, lawful, next_use, first_at, first_from, better, better_if, greatest, latest_of}
-use Rattle.model.specs.Rules.{NeedLaw}
-use Rattle.model.specs.ViewLaws.{FirstIs, FirstExact, FirstsExact, LatestIs, LatestExact, LatestsExact, silent, SilenceBreaksTheLaw}
+use Rattle.model.specs.View.{Option, None, Some, View, Absent, Resident, blocks, may_go_out, next_use, first_at, first_from, better_if, greatest, latest_of}
+use Rattle.model.specs.ViewLaws.{FirstIs, FirstsExact, LatestIs, LatestsExact, SilenceBreaksTheLaw}
 use Rattle.model.proofs.Choosing.{latest_none, greatest_none}
 
 -- first, over a list whose head stands at a position

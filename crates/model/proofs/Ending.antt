@@ -1,18 +1,14 @@
 -- A pass ends: from its opening on, step by step, all requests are served in time.
-use Rattle.std.proofs.Common.{◌≡◌, ℕ, zero, suc, ◌+◌, ◌-◌, ◌*◌, ◌<◌, ◌≤◌, Bool, true, false, eqb, leb, ◌⊎◌, List, [], ◌∷◌, ◌++◌, length, get_or, set, replicate, sym, refl, ap, ◌∙◌, subst, inl, inr, mul-suc, arith}
-use Rattle.std.proofs.lemmas.List.{append_assoc, append-nil, get_or-set_same, get_or-set_other}
-use Rattle.std.proofs.lemmas.Bool.{false≢true, leb-true, leb-false, le-leb, eq-eqb, ne_eqb, cases_eq, cases_lt}
-use Rattle.model.specs.Timetable.{Exchange, Act, Serve, Wait, Side, Forward, Backward}
-use Rattle.model.specs.PlanBytes.{Opens, Serves, Waits}
-use Rattle.model.specs.Verdict.{Mark, Away, Here, is_away_at, is_here_at, State, begin, after, blank_marks, blank_idle, most_blocks, most_disks}
+use Rattle.std.proofs.Common.{◌≡◌, ℕ, zero, suc, ◌+◌, ◌-◌, ◌*◌, ◌<◌, ◌≤◌, Bool, true, false, ◌⊎◌, List, length, get_or, sym, refl, ap, ◌∙◌, subst, inl, inr, mul-suc, arith}
+use Rattle.std.proofs.lemmas.Bool.{leb-true, leb-false, le-leb, eq-eqb, ne_eqb}
+use Rattle.model.specs.Timetable.{Side}
+use Rattle.model.specs.PlanBytes.{Waits}
+use Rattle.model.specs.Verdict.{Mark, Away, Here, is_away_at, is_here_at, State, after}
 use Rattle.model.specs.Statements.{Fit}
 use Rattle.model.specs.Rules.{Rule, NeedLaw}
-use Rattle.model.specs.Pass.{Course, due, can_serve, steps, is_over, opens, asks_all, turn, next_by, runs}
-use Rattle.model.proofs.Progress.{Tells, tells_begin, tells_opens, each_push}
-use Rattle.model.proofs.Accepts.{Sofar}
-use Rattle.model.proofs.Picked.{Rising, rising_room}
-use Rattle.model.proofs.Seeing.{mark, idle_from, Requested}
-use Rattle.model.proofs.Sound.{Sound, sound_waits, sound_serves, here_away, here_same}
+use Rattle.model.specs.Pass.{Course, can_serve, steps, is_over, asks_all, turn, next_by, runs}
+use Rattle.model.proofs.Seeing.{mark}
+use Rattle.model.proofs.Sound.{Sound, sound_waits, sound_serves}
 use Rattle.model.proofs.Turning.{Within, Stands, lands, blocked, behind, Ready, lands_by, blocked_by, behind_by, boundary_stands}
 
 away_later : (m : Mark) (t : ℕ) → is_away_at m t ≡ true → is_away_at m (t + 1) ≡ true

@@ -1,10 +1,10 @@
 -- The plan of a pass is the one plan that follows its rule.
-use Rattle.std.proofs.Common.{◌≡◌, ℕ, ◌*◌, ◌<◌, List, [], ◌∷◌, length, sym, refl, ap, ◌∙◌, subst, arith}
-use Rattle.model.specs.Timetable.{Exchange, Act, Side, Plan, wanted}
+use Rattle.std.proofs.Common.{ℕ, ◌*◌, ◌<◌, List, [], length, sym, refl, subst, arith}
+use Rattle.model.specs.Timetable.{Exchange, Side, Plan, wanted}
 use Rattle.model.specs.Rules.{Rule, NeedLaw}
-use Rattle.model.specs.Pass.{Course, passed, plan_from}
+use Rattle.model.specs.Pass.{passed, plan_from}
 use Rattle.model.specs.PassLaws.{Playable, FitOpening}
-use Rattle.model.specs.Follows.{Follows, OnlyPlan, PassFollows}
+use Rattle.model.specs.Follows.{Follows, PassFollows}
 use Rattle.model.proofs.Once.{keeps_form}
 use Rattle.model.proofs.Opened.{opened_records}
 use Rattle.model.proofs.Passing.{first, opened, pass_keeps}

@@ -1,20 +1,19 @@
 -- The plan of a pass follows its rule.
-use Rattle.std.proofs.Common.{◌≡◌, ℕ, zero, suc, ◌+◌, ◌-◌, ◌<◌, ◌≤◌, Bool, true, false, cond, eqb, ltb, ◌⊎◌, List, [], ◌∷◌, ◌++◌, length, get_or, take, sym, refl, ap, ◌∙◌, subst, inl, inr, arith}
-use Rattle.std.proofs.lemmas.List.{append-nil, append_assoc, length_push, get_or_append_left, get_or_push, take-append-le, take_at}
-use Rattle.std.proofs.lemmas.Bool.{false≢true, both_ways, lt-ltb, le-ltb, eqb-true, eqb-false, cases_eq}
-use Rattle.model.specs.Timetable.{Exchange, none, Act, Serve, Wait, Side, Plan, served, wanted, ResidentDuring}
-use Rattle.model.specs.PlanBytes.{Serves, Waits}
-use Rattle.model.specs.Verdict.{Mark, Here, is_here_at, State, after, most_disks}
+use Rattle.std.proofs.Common.{◌≡◌, ℕ, zero, suc, ◌+◌, ◌-◌, ◌<◌, ◌≤◌, Bool, true, false, cond, ltb, ◌⊎◌, List, [], ◌∷◌, ◌++◌, length, get_or, take, sym, refl, ap, ◌∙◌, subst, inl, inr, arith}
+use Rattle.std.proofs.lemmas.List.{append-nil, length_push, get_or_append_left, get_or_push, take-append-le, take_at}
+use Rattle.std.proofs.lemmas.Bool.{both_ways, le-ltb, eqb-false, cases_eq}
+use Rattle.model.specs.Timetable.{Exchange, none, Act, Serve, Wait, Side, served, wanted, ResidentDuring}
+use Rattle.model.specs.Verdict.{State, after, most_disks}
 use Rattle.model.specs.Statements.{Fit}
-use Rattle.model.specs.View.{Option, None, Some, View, missing, is_free, lawful, wanted_block}
-use Rattle.model.specs.Rules.{Rule, NeedLaw, Wants}
+use Rattle.model.specs.View.{Option, None, Some, View, missing, is_free, wanted_block}
+use Rattle.model.specs.Rules.{Rule, NeedLaw}
 use Rattle.model.specs.Pass.{Course, seen, starts, due, screened, takes_need, takes_ahead, can_serve, steps, is_over, asks_need, asks_ahead, asks_disks, asks_all, turn, next_by, runs}
 use Rattle.model.specs.Follows.{before, front_if, view_at, on_need, on_ahead, need_starts, ahead_starts, with_disks, with_answers}
 use Rattle.model.proofs.Marks.{resident_here}
-use Rattle.model.proofs.Seeing.{mark, idle_from, Requested, lawful_takes, sees_missing}
-use Rattle.model.proofs.Sound.{Sound, later_sound}
+use Rattle.model.proofs.Seeing.{mark, lawful_takes}
+use Rattle.model.proofs.Sound.{later_sound}
 use Rattle.model.proofs.Turning.{Within, within_trades, one_disk, all_disks}
-use Rattle.model.proofs.Ending.{Runs, Turned, turn_goes, ready_fresh}
+use Rattle.model.proofs.Ending.{Runs, turn_goes, ready_fresh}
 use Rattle.model.proofs.Agreeing.{view_same}
 use Rattle.model.proofs.Only.{before_all}
 

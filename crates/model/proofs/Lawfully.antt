@@ -1,19 +1,17 @@
 -- Lawful to a rule and lawful in the model are one.
-use Rattle.std.proofs.Common.{◌≡◌, ℕ, zero, suc, ◌+◌, ◌<◌, ◌≤◌, Bool, true, false, cond, not, ◌&&◌, eqb, ltb, leb, ◌⊎◌, List, [], ◌∷◌, length, get_or, take, sym, refl, ap, ◌∙◌, subst, inl, inr, arith}
-use Rattle.std.proofs.lemmas.List.{get_or_past}
-use Rattle.std.proofs.lemmas.Bool.{false≢true, both_ways, and_parts, and_from, eqb-true, eq-eqb, ne_eqb, lt-ltb, ltb-true, ltb-false, le-ltb, not-true, not-false, cases_eq, cases_lt}
-use Rattle.model.specs.Timetable.{Exchange, none, Act, Side, Forward, Backward, occupies, bit, count, home, landed, brought, left, Lawful, Resident, Absent}
+use Rattle.std.proofs.Common.{◌≡◌, ℕ, ◌+◌, ◌<◌, ◌≤◌, Bool, true, false, cond, not, ◌&&◌, eqb, ltb, ◌⊎◌, List, length, get_or, take, sym, refl, ap, ◌∙◌, subst, inl, inr, arith}
+use Rattle.std.proofs.lemmas.Bool.{false≢true, and_parts, and_from, eqb-true, eq-eqb, ne_eqb, lt-ltb, ltb-false, le-ltb, not-false, cases_eq}
+use Rattle.model.specs.Timetable.{Exchange, none, Act, Side, Forward, Backward, occupies, count, home, landed, brought, left, Lawful, Resident, Absent}
 use Rattle.model.specs.Verdict.{most_disks}
 use Rattle.model.specs.Statements.{Fit}
 use Rattle.model.specs.Refusals.{KeepsSoFar}
-use Rattle.model.specs.View.{Place, is_absent, is_resident, View, missing, may_go_out, lawful, is_free, disk_of}
-use Rattle.model.specs.Pass.{each}
+use Rattle.model.specs.View.{Place, is_absent, is_resident, View, missing, may_go_out, lawful, is_free}
 use Rattle.model.specs.Follows.{place_at, named_at, free_at, view_at}
-use Rattle.model.specs.ViewLaws.{LawfulSame, LawfulExact}
+use Rattle.model.specs.ViewLaws.{LawfulExact}
 use Rattle.model.proofs.Counting.{count_none}
 use Rattle.model.proofs.Marks.{Started, comings, goings, left_all, brought_all, landed_brought, none_brings, none_sends, brought_before, left_before}
 use Rattle.model.proofs.Plainly.{brought_front, left_front, landed_front}
-use Rattle.model.proofs.Seeing.{each_at, each_length}
+use Rattle.model.proofs.Seeing.{each_at}
 use Rattle.model.proofs.Agreeing.{count_zero}
 use Rattle.model.proofs.Choosing.{four_all, lawful_parts}
 

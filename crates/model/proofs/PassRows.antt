@@ -1,5 +1,5 @@
 -- The worked passes, computed.
-use Rattle.std.proofs.Common.{◌≡◌, List, [], ◌∷◌, map, refl}
+use Rattle.std.proofs.Common.{◌≡◌, [], ◌∷◌, map, refl}
 use Rattle.model.specs.Timetable.{Forward, Serve, count, home, waited}
 use Rattle.model.specs.PlanBytes.{plan_commands, step_commands, starting_at}
 use Rattle.model.specs.Verdict.{after, blank_marks, blank_idle}

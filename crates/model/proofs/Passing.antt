@@ -1,13 +1,12 @@
 -- The plan of a pass keeps the model and ends in time.
-use Rattle.std.proofs.Common.{◌≡◌, ℕ, zero, suc, ◌+◌, ◌-◌, ◌*◌, ◌<◌, ◌≤◌, ◌⊎◌, List, [], ◌∷◌, length, get_or, sym, refl, ap, ◌∙◌, subst, inl, inr, mul-suc, arith}
+use Rattle.std.proofs.Common.{◌≡◌, ℕ, zero, suc, ◌+◌, ◌-◌, ◌*◌, ◌<◌, ◌≤◌, ◌⊎◌, List, [], length, sym, refl, ap, ◌∙◌, inl, inr, mul-suc, arith}
 use Rattle.std.proofs.lemmas.Bool.{cases_lt}
-use Rattle.model.specs.Timetable.{Side, Plan, Keeps}
-use Rattle.model.specs.Verdict.{Here, State, begin}
+use Rattle.model.specs.Timetable.{Side, Keeps}
+use Rattle.model.specs.Verdict.{begin}
 use Rattle.model.specs.Rules.{Rule, NeedLaw}
 use Rattle.model.specs.Pass.{Course, opens, runs, passed, plan_from}
 use Rattle.model.specs.PassLaws.{RulesMeetTheLaw, Playable, FitOpening, PassKeeps, PassEnds}
 use Rattle.model.proofs.Choosing.{aggressive_law, demand_law}
-use Rattle.model.proofs.Seeing.{mark}
 use Rattle.model.proofs.Sound.{Sound}
 use Rattle.model.proofs.Ending.{Runs, Ended, ends, over_ends, ready_fresh}
 use Rattle.model.proofs.Opened.{sound_opened}

@@ -1,16 +1,13 @@
 -- Passes over sheets within the limits: their sizes, their acceptance, and the mirror of the backward pass.
-use Rattle.std.proofs.Common.{◌≡◌, ℕ, ◌+◌, ◌-◌, ◌*◌, ◌<◌, ◌≤◌, List, reverse, length, get_or, sym, refl, ap, ◌∙◌, subst, mul-le-mul, arith}
+use Rattle.std.proofs.Common.{◌≡◌, ℕ, ◌-◌, ◌*◌, ◌<◌, ◌≤◌, List, reverse, length, get_or, refl, ap, subst, mul-le-mul, arith}
 use Rattle.std.proofs.lemmas.List.{reverse-reverse, length-reverse, get_or-reverse}
 use Rattle.model.specs.Timetable.{Side, Forward, Backward, Plan, Keeps}
 use Rattle.model.specs.PlanBytes.{plan_bytes}
 use Rattle.model.specs.Verdict.{verdict}
-use Rattle.model.specs.Sheet.{Sheet, Fits}
 use Rattle.model.specs.Statements.{Fit, WrittenBy, plan_outcome}
-use Rattle.model.specs.Mirror.{mirrored}
 use Rattle.model.specs.MirrorLaws.{Alike}
-use Rattle.model.specs.Rules.{Rule, NeedLaw}
 use Rattle.model.specs.Pass.{usual_opening}
-use Rattle.model.specs.PassLaws.{Playable, FitOpening, SheetPlays, plan_over, Sized, Passes, PassAccepted, turned_plan, replay_plan, Replays, PassReplays}
+use Rattle.model.specs.PassLaws.{Playable, FitOpening, SheetPlays, plan_over, Sized, PassAccepted, turned_plan, replay_plan, PassReplays}
 use Rattle.model.proofs.Once.{keeps_form}
 use Rattle.model.proofs.Sizes.{plan_size}
 use Rattle.model.proofs.Written.{written_accepted}

@@ -1,12 +1,12 @@
 -- What a rule sees of a state, and what the state itself tells: the same.
-use Rattle.std.proofs.Common.{◌≡◌, ℕ, zero, suc, ◌+◌, ◌-◌, ◌<◌, ◌≤◌, Bool, true, false, cond, not, ◌&&◌, eqb, ltb, leb, ◌⊎◌, List, [], ◌∷◌, ◌++◌, map, length, get_or, drop, sym, refl, ap, ◌∙◌, subst, inl, inr, arith}
+use Rattle.std.proofs.Common.{◌≡◌, ℕ, zero, suc, ◌+◌, ◌<◌, ◌≤◌, Bool, true, false, cond, not, ◌&&◌, eqb, leb, ◌⊎◌, List, [], ◌∷◌, ◌++◌, map, length, get_or, drop, sym, refl, ap, ◌∙◌, subst, inl, inr, arith}
 use Rattle.std.proofs.lemmas.List.{get_or_append_left, get_or_push, length_push, get_or-map, get_or_past, length-map, length-drop, get_or-drop}
-use Rattle.std.proofs.lemmas.Bool.{false≢true, both_ways, leb-true, le-leb, eqb-true, ltb-true, lt-ltb, cases_eq, cases_lt, and_from}
+use Rattle.std.proofs.lemmas.Bool.{both_ways, leb-true, le-leb, eqb-true, lt-ltb, cases_eq, cases_lt}
 use Rattle.model.specs.Timetable.{Side, Forward, Backward, occupies}
 use Rattle.model.specs.Verdict.{Mark, Away, Here, is_away_at, is_here_at, State}
 use Rattle.model.specs.View.{Place, View, is_absent, is_resident, missing, may_go_out, lawful, is_free, disk_of, next_use, first_at}
 use Rattle.model.specs.Pass.{each, place_by, named_by, seen}
-use Rattle.model.proofs.Choosing.{IsLawful, lawful_parts, four_all}
+use Rattle.model.proofs.Choosing.{lawful_parts, four_all}
 
 pub each_length : {X : Type 0} (f : ℕ → X) (n : ℕ) → length (each f n) ≡ n
 unfolding each

@@ -1,10 +1,10 @@
 -- What holds of a pass at every moment, and how a start and a step keep it.
-use Rattle.std.proofs.Common.{◌≡◌, ℕ, zero, suc, ◌+◌, ◌<◌, ◌≤◌, Bool, true, false, ◌⊎◌, List, [], ◌∷◌, ◌++◌, length, get_or, take, set, sym, refl, ap, ◌∙◌, subst, inl, inr, arith}
+use Rattle.std.proofs.Common.{◌≡◌, ℕ, ◌+◌, ◌<◌, ◌≤◌, true, ◌⊎◌, List, [], ◌∷◌, ◌++◌, length, get_or, take, set, sym, refl, ap, ◌∙◌, subst, inl, inr, arith}
 use Rattle.std.proofs.lemmas.List.{get_or_append_left, get_or-set_same, get_or-set_other, length-set, take-append-le, take_at}
-use Rattle.std.proofs.lemmas.Bool.{false≢true, leb-true, cases_eq, cases_lt}
+use Rattle.std.proofs.lemmas.Bool.{false≢true, leb-true, cases_eq}
 use Rattle.model.specs.Timetable.{Exchange, none, Act, Serve, Wait, Side, Forward, Backward, occupies, Lawful, ResidentDuring, wanted, served}
-use Rattle.model.specs.PlanBytes.{Trades, Serves, Waits}
-use Rattle.model.specs.Verdict.{Mark, Away, Here, is_away_at, is_here_at, State, after, most_blocks, most_disks}
+use Rattle.model.specs.PlanBytes.{Serves, Waits}
+use Rattle.model.specs.Verdict.{Mark, Away, Here, is_away_at, is_here_at, State, after, most_disks}
 use Rattle.model.specs.Statements.{Fit}
 use Rattle.model.specs.Pass.{starts}
 use Rattle.model.proofs.Marks.{Started, here_resident, landed_late, left_late}

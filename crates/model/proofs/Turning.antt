@@ -1,16 +1,15 @@
 -- One boundary of a pass: what is asked there, and what it comes to.
-use Rattle.std.proofs.Common.{◌≡◌, ℕ, zero, suc, ◌+◌, ◌<◌, ◌≤◌, Bool, true, false, cond, not, eqb, ltb, leb, ◌⊎◌, List, [], ◌∷◌, ◌++◌, length, get_or, sym, refl, ap, ◌∙◌, subst, inl, inr, arith}
-use Rattle.std.proofs.lemmas.Bool.{false≢true, both_ways, leb-true, le-leb, lt-leb, ltb-true, eqb-true, eq-eqb, not-true, cases_eq, cases_lt}
-use Rattle.model.specs.Timetable.{Act, Serve, Wait, Side, Forward, Backward, occupies}
-use Rattle.model.specs.PlanBytes.{Serves, Waits}
-use Rattle.model.specs.Verdict.{Mark, Away, Here, is_away_at, is_here_at, State, after, most_disks}
+use Rattle.std.proofs.Common.{◌≡◌, ℕ, zero, suc, ◌+◌, ◌<◌, ◌≤◌, Bool, true, false, cond, not, eqb, ltb, ◌⊎◌, List, length, get_or, sym, refl, ap, ◌∙◌, subst, inl, inr, arith}
+use Rattle.std.proofs.lemmas.Bool.{both_ways, le-leb, ltb-true, eq-eqb, not-true, cases_eq, cases_lt}
+use Rattle.model.specs.Timetable.{Act, Side, Forward, Backward, occupies}
+use Rattle.model.specs.Verdict.{Mark, Here, is_away_at, is_here_at, State, after, most_disks}
 use Rattle.model.specs.Statements.{Fit}
-use Rattle.model.specs.View.{Option, None, Some, View, missing, lawful, is_free, disk_of, next_use, wanted_block}
+use Rattle.model.specs.View.{Option, None, Some, View, lawful, is_free, disk_of, next_use, wanted_block}
 use Rattle.model.specs.Rules.{Rule, NeedLaw, Wants}
-use Rattle.model.specs.Pass.{seen, starts, due, screened, takes_ahead, takes_need, asks_need, asks_ahead, asks_disks, asks_all}
+use Rattle.model.specs.Pass.{seen, starts, screened, takes_ahead, takes_need, asks_need, asks_ahead, asks_disks, asks_all}
 use Rattle.model.proofs.Choosing.{all_four}
 use Rattle.model.proofs.Seeing.{mark, idle_from, Requested, Takes, use_requested, sees_missing, lawful_takes, takes_lawful}
-use Rattle.model.proofs.Sound.{Sound, later_sound, sound_trades, new_in, new_other, other_idle, away_is, here_is, here_away, here_same}
+use Rattle.model.proofs.Sound.{Sound, later_sound, sound_trades, new_in, new_other, other_idle, away_is, here_is, here_away}
 
 not_eq : (a b : ℕ) → not (eqb a b) ≡ true → a ≡ b → ⊥
 not_eq a b e i = both_ways (eqb a b) (not-true (eqb a b) e) (eq-eqb a b i)

@@ -5,7 +5,7 @@ use Rattle.std.proofs.lemmas.List.{append-nil, reverse-reverse, length-reverse, 
 use Rattle.std.proofs.lemmas.Bool.{eqb-true, eq-eqb, ne_eqb, le-ltb, lt-leb, cases_eq}
 use Rattle.model.specs.Timetable.{Exchange, none, Side, Plan, Keeps, landed, left, home, bit}
 use Rattle.model.specs.PlanBytes.{starting_at}
-use Rattle.model.specs.Mirror.{picked, remains, closing, reflected, mirrored}
+use Rattle.model.specs.Mirror.{remains, closing, reflected, mirrored}
 use Rattle.model.specs.MirrorLaws.{MirrorTwice, ClosingContent, MirrorOrder}
 use Rattle.model.proofs.Counting.{count_none}
 use Rattle.model.proofs.Writing.{starting_append}

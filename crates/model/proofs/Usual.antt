@@ -1,9 +1,8 @@
 -- The usual opening fills the frames with existing blocks, rising.
-use Rattle.std.proofs.Common.{◌≡◌, ℕ, zero, suc, ◌+◌, ◌-◌, ◌<◌, ◌≤◌, Bool, true, false, ◌||◌, eqb, ltb, leb, ◌⊎◌, List, [], ◌∷◌, ◌++◌, length, get_or, sym, refl, ap, ◌∙◌, subst, inl, inr, arith}
+use Rattle.std.proofs.Common.{◌≡◌, ℕ, zero, suc, ◌+◌, ◌-◌, ◌<◌, ◌≤◌, Bool, true, false, ◌||◌, eqb, ltb, leb, ◌⊎◌, List, [], ◌∷◌, ◌++◌, length, get_or, refl, ap, ◌∙◌, subst, inl, inr, arith}
 use Rattle.std.proofs.lemmas.List.{length-append, get_or_append_left, get_or-append-add}
 use Rattle.std.proofs.lemmas.Bool.{false≢true, and_parts, and_from, ltb-true, lt-ltb, le-leb, eqb-true, eqb-false, leb-true, leb-false, eq-eqb, ne_eqb, cases_eq, cases_lt}
 use Rattle.model.specs.Timetable.{bit, home, one_or}
-use Rattle.model.specs.Mirror.{picked}
 use Rattle.model.specs.Pass.{each, add_unless, different, usual_opening, rises, opening_fits}
 use Rattle.model.specs.View.{all_of}
 use Rattle.model.specs.PassLaws.{Playable, FitOpening, OpeningsTold}

@@ -1,7 +1,7 @@
 -- When a plan follows a choosing rule: at each boundary it starts exactly what the rule answers there, it serves exactly
 -- when it can, and it ends when all is served. What the rule sees is told from the plan alone, by counting.
 use Rattle.std.specs.Prelude.{◌≡◌, ℕ, zero, suc, ◌+◌, ◌<◌, Bool, true, false, cond, not, ◌&&◌, List, [], ◌∷◌, ◌++◌, length, take, ◌==◌, nat_lt, slice_index_or}
-use Rattle.model.specs.Timetable.{Side, Exchange, Act, Serve, Wait, Plan, occupies, count, home, landed, brought, left, served, wanted, ResidentDuring}
+use Rattle.model.specs.Timetable.{Side, Exchange, Serve, Wait, Plan, occupies, count, home, landed, brought, left, served, wanted, ResidentDuring}
 use Rattle.model.specs.Verdict.{most_disks}
 use Rattle.model.specs.Statements.{Formed}
 use Rattle.model.specs.View.{Option, None, Some, View, Place, Absent, InFlight, Resident, missing, is_free, wanted_block}

@@ -1,8 +1,8 @@
 -- Choosing rules. A rule answers two questions from what it sees: need, when the block at the position is missing,
 -- which block goes out for it; ahead, for a free disk, an exchange (block in, block out), or none where it wants none.
-use Rattle.std.specs.Prelude.{◌≡◌, ℕ, zero, suc, ◌+◌, ◌<◌, Bool, true, false, cond, length, nat_lt, slice_index}
+use Rattle.std.specs.Prelude.{◌≡◌, ℕ, zero, suc, ◌+◌, ◌<◌, true, false, cond, length, nat_lt, slice_index}
 use Rattle.model.specs.Timetable.{Side, Forward, Backward}
-use Rattle.model.specs.View.{Option, None, Some, View, blocks, wanted_block, is_free, missing, may_go_out, lawful, next_use, first_missing, first_missing_on, latest, latest_on, latest_of}
+use Rattle.model.specs.View.{Option, None, Some, View, blocks, wanted_block, is_free, missing, lawful, next_use, first_missing, first_missing_on, latest, latest_on, latest_of}
 
 pub record Rule : Type 0 where
   pub need : View → Option ℕ

@@ -3,7 +3,7 @@ use Rattle.std.specs.Prelude.{◌≡◌, ℕ, ◌<◌, ◌≤◌, Bool, true, fa
 use Rattle.model.specs.Timetable.{Side, Exchange, Act, Lawful}
 use Rattle.model.specs.Statements.{Fit}
 use Rattle.model.specs.Refusals.{KeepsSoFar}
-use Rattle.model.specs.View.{Option, None, Some, View, blocks, may_go_out, lawful, next_use, first_from, latest_of}
+use Rattle.model.specs.View.{None, Some, View, may_go_out, lawful, next_use, first_from, latest_of}
 use Rattle.model.specs.Rules.{Rule, NeedLaw}
 use Rattle.model.specs.Follows.{view_at}
 

@@ -1,9 +1,9 @@
 -- The seven-step plan replayed: what the tally, the disks and the answers are along the way.
-use Rattle.std.specs.Prelude.{◌≡◌, ℕ, true, false, List, [], ◌∷◌, ◌++◌, replicate}
+use Rattle.std.specs.Prelude.{◌≡◌, true, false, [], ◌∷◌, ◌++◌, replicate}
 use Rattle.model.specs.Sheet.{Sheet}
-use Rattle.model.specs.Timetable.{Exchange, Serve, Wait, Plan}
+use Rattle.model.specs.Timetable.{Serve, Wait, Plan}
 use Rattle.model.specs.Worked.{homes6, requests6}
-use Rattle.model.specs.Replay.{Bank, Doing, Idle, Fetches, Reply, Stepped, Gave, Told, Refused, Call, Step, Read, Count, Tally, tally_at, bank_at, replies, Ask, Start, Tick, Collect, all_granted, asked_all, loading, asks_at, asks_up_to}
+use Rattle.model.specs.Replay.{Bank, Idle, Fetches, Stepped, Told, Refused, Step, Read, Count, tally_at, bank_at, replies, Start, Tick, Collect, all_granted, asked_all, loading, asks_at, asks_up_to}
 
 abbrev sheet6 : Sheet
 sheet6 = record { name = replicate 16 32; rack = record { disks = 2; frames = 4; fetch = 2; homes = homes6 }; requests = requests6 }

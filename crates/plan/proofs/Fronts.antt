@@ -1,8 +1,8 @@
 -- What stands at the front of a plan's bytes, by its letter. Assumes nothing.
-use Rattle.std.proofs.Common.{◌≡◌, ℕ, ◌+◌, ◌*◌, ◌<◌, ◌≤◌, List, length, get_or, sym, refl, ap, ◌∙◌, arith}
+use Rattle.std.proofs.Common.{◌≡◌, ℕ, ◌<◌, List, length, get_or, arith}
 use Rattle.std.proofs.lemmas.Bool.{eq-eqb, ne_eqb}
 use Rattle.model.specs.declared.Command.TheVariants.{Opens, Trades, Serves, Waits, Ends}
-use Rattle.model.specs.Verdict.{Found, Missing, Strange, Known, found, block}
+use Rattle.model.specs.Verdict.{Missing, Strange, Known, found, block}
 
 module _ (rest : List ℕ) where
   pub nothing : length rest ≡ 0 → found rest ≡ Missing

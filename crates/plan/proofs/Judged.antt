@@ -1,13 +1,13 @@
 -- What a command's own tests find. Assumes nothing.
-use Rattle.std.proofs.Common.{◌≡◌, ℕ, zero, suc, ◌<◌, ◌≤◌, true, false, eqb, ltb, leb, List, [], ◌∷◌, length, get_or, Some, None, sym, refl, ap, ◌∙◌, arith}
+use Rattle.std.proofs.Common.{◌≡◌, ℕ, zero, suc, ◌<◌, ◌≤◌, true, false, List, [], ◌∷◌, length, get_or, Some, None, arith}
 use Rattle.std.specs.List.{slice_get}
-use Rattle.std.proofs.lemmas.Bool.{lt-ltb, le-ltb, le-leb, lt-leb, eq-eqb, ne_eqb}
+use Rattle.std.proofs.lemmas.Bool.{lt-ltb, le-ltb, le-leb, eq-eqb}
 use Rattle.model.specs.Sheet.{Sheet}
-use Rattle.model.specs.Timetable.{Side, occupies}
-use Rattle.model.specs.declared.Command.TheVariants.{Opens, Trades, Serves, Waits, Ends}
-use Rattle.model.specs.declared.Cause.TheVariants.{BadOpening, BadIn, BadOut, DiskBusy, CannotServe, RequestsLeft, NotLanded, ListFull}
+use Rattle.model.specs.Timetable.{Side}
+use Rattle.model.specs.declared.Command.TheVariants.{Opens, Serves, Waits, Ends}
+use Rattle.model.specs.declared.Cause.TheVariants.{CannotServe}
 use Rattle.model.specs.declared.Mark.TheVariants.{Away}
-use Rattle.model.specs.Verdict.{State, Finding, Clean, Faulty, first, is_here_at, is_away_at}
+use Rattle.model.specs.Verdict.{State, Clean, Faulty, first, is_here_at}
 use Rattle.plan.specs.Tracks.{tests_for}
 
 -- A look-up in a list.

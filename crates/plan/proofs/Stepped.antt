@@ -1,5 +1,5 @@
 -- One command judged: what its being admitted gives. Assumes nothing.
-use Rattle.std.proofs.Common.{◌≡◌, ℕ, ◌+◌, ◌-◌, ◌<◌, ◌≤◌, Bool, true, false, cond, not, ◌&&◌, ltb, leb, List, [], ◌∷◌, length, drop, Ok, Err, Result, sym, refl, ap, ◌∙◌, subst, ⊎_elim, arith}
+use Rattle.std.proofs.Common.{◌≡◌, ℕ, ◌+◌, ◌-◌, ◌≤◌, Bool, true, false, cond, not, ◌&&◌, ltb, leb, List, [], ◌∷◌, length, drop, Ok, Err, Result, sym, refl, ap, ◌∙◌, subst, ⊎_elim, arith}
 use Rattle.std.proofs.lemmas.Bool.{leb-true, ltb-false, cases_Bool}
 use Rattle.model.specs.Sheet.{Sheet}
 use Rattle.model.specs.Timetable.{Side}
@@ -11,7 +11,7 @@ use Rattle.model.specs.declared.Phase.TheVariants.{Filling, Standing, Starting, 
 use Rattle.model.specs.Verdict.{State, Found, Missing, Strange, Known, found, Test, test, Finding, Clean, Faulty, first, Turn, Goes, Stops, turn_by, tests_at, tests_of, size, in_place, is_over, within_limit, place_of, step, after}
 use Rattle.plan.specs.declared.fault.PlanFault.{PlanFault}
 use Rattle.plan.specs.declared.fault.Stop.{Stop}
-use Rattle.plan.specs.Admitted.{stray, command_admitted, admit_found, admitted, told_of}
+use Rattle.plan.specs.Admitted.{stray, admit_found, admitted, told_of}
 use Rattle.plan.specs.Steps.{step_for}
 use Rattle.plan.specs.Tracks.{tests_for, after_for}
 

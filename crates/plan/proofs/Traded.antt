@@ -1,18 +1,16 @@
 -- An exchange started, or refused. Assumes nothing.
-use Rattle.std.proofs.Common.{◌≡◌, ℕ, ◌+◌, ◌<◌, ◌≤◌, Bool, true, false, cond, ltb, List, [], ◌∷◌, ◌++◌, length, get_or, take, drop, set, Ok, Err, Result, sym, refl, ap, ◌∙◌, arith}
-use Rattle.std.proofs.lemmas.List.{length-take-le, take_more_set, drop-set-lt, set_past}
+use Rattle.std.proofs.Common.{◌≡◌, ℕ, ◌+◌, ◌<◌, Bool, ltb, List, [], ◌∷◌, ◌++◌, length, take, drop, set, Ok, Err, Result, sym, refl, ap, ◌∙◌, arith}
+use Rattle.std.proofs.lemmas.List.{take_more_set, drop-set-lt}
 use Rattle.model.specs.Sheet.{Sheet}
 use Rattle.model.specs.Timetable.{Side, occupies}
 use Rattle.model.specs.declared.Exchange.{Exchange}
 use Rattle.model.specs.declared.Command.TheVariants.{Trades}
 use Rattle.model.specs.declared.Cause.TheVariants.{ListFull}
-use Rattle.model.specs.declared.Mark.TheVariants.{Away, Here}
-use Rattle.model.specs.declared.Phase.TheVariants.{Starting}
 use Rattle.model.specs.Verdict.{State, Finding, Clean, Faulty, after}
 use Rattle.plan.specs.declared.fault.Stop.{Stop}
 use Rattle.plan.specs.declared.track.Track.{Track}
 use Rattle.plan.specs.Noted.{started}
-use Rattle.plan.specs.Tracks.{whole, answered, if_room, left_by, after_for}
+use Rattle.plan.specs.Tracks.{whole, answered, if_room, after_for}
 
 pub faulty_by : (f : Finding) (e : Stop) → Err e ≡ answered f → f ≡ Faulty e.cause
 faulty_by Clean e p = let z : ◌≡◌ {A = ℕ} 0 1 = cc in absurd (omega arith)

@@ -5,7 +5,7 @@ use Rattle.model.specs.Timetable.{Side}
 use Rattle.model.specs.declared.Exchange.{Exchange}
 use Rattle.model.specs.declared.Cause.TheVariants.{ListFull}
 use Rattle.model.specs.declared.Command.{Command}
-use Rattle.model.specs.Verdict.{State, Test, Finding, Clean, Faulty, first, own_tests, after}
+use Rattle.model.specs.Verdict.{State, Test, Finding, Clean, Faulty, own_tests, after}
 use Rattle.plan.specs.declared.fault.Stop.{Stop}
 use Rattle.plan.specs.declared.track.Track.{Track}
 

@@ -1,5 +1,5 @@
 -- A record by its place in a list, from what the slots' own look-up says. Assumes nothing.
-use Rattle.std.proofs.Common.{◌≡◌, ℕ, ◌<◌, ◌≤◌, min, List, length, get_or, take, Some, None, Option, sym, refl, ap, ◌∙◌, arith, length-take, get_or-take, Bor}
+use Rattle.std.proofs.Common.{◌≡◌, ℕ, ◌<◌, ◌≤◌, List, length, take, Some, None, Option, sym, refl, ◌∙◌, arith, length-take, get_or-take, Bor}
 use Rattle.std.specs.List.{slice_get}
 use Rattle.std.specs.Slice.{IsGetResult}
 use Rattle.std.specs.Option.{option_map}

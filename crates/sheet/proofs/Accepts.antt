@@ -1,12 +1,12 @@
 -- The bytes of a sheet within the limits are read as that sheet. Assumes nothing.
-use Rattle.std.proofs.Common.{◌≡◌, ℕ, zero, suc, ◌+◌, ◌-◌, ◌*◌, ◌/◌, ◌%◌, ◌<◌, ◌≤◌, Bool, true, false, cond, eqb, ltb, leb, List, [], ◌∷◌, ◌++◌, length, get_or, take, drop, set, replicate, Some, None, Option, sym, refl, ap, ◌∙◌, subst, append_assoc, append-nil, arith, length-append, length-set}
+use Rattle.std.proofs.Common.{◌≡◌, ℕ, suc, ◌+◌, ◌*◌, ◌/◌, ◌%◌, ◌<◌, ◌≤◌, Bool, true, false, List, [], ◌∷◌, ◌++◌, length, get_or, take, set, Some, Option, sym, refl, ap, ◌∙◌, append_assoc, append-nil, arith, length-append, length-set}
 use Rattle.std.specs.List.{flat_map}
-use Rattle.std.proofs.lemmas.List.{take_at, drop_at, take_more_set, take_all}
+use Rattle.std.proofs.lemmas.List.{take_at, drop_at, take_more_set}
 use Rattle.std.proofs.lemmas.Bool.{cond-true, lt-ltb, le-ltb, le-leb}
 use Rattle.model.specs.Sheet.{Rack, Sheet, RackFits, Fits, sheet_bytes, name_bytes, rack_bytes, geometry_bytes, disk_bytes, request_bytes, end_bytes}
-use Rattle.sheet.specs.declared.stage.Stage.TheVariants.{Name, Geometry, Blocks, Requests, Nothing}
+use Rattle.sheet.specs.declared.stage.Stage.TheVariants.{Name, Geometry, Blocks}
 use Rattle.sheet.specs.Commands.{Said, name, geometry, disk, request, end, front_of}
-use Rattle.sheet.specs.Reading.{SoFar, takes, is_nothing, nothing_yet, named, geared, housed, asked, ended, took, Took, kept, took_disk, took_request, took_end, within_limits, Turn, proceeds, after_taking, turn, sheet_said, fit, run, reading}
+use Rattle.sheet.specs.Reading.{SoFar, takes, is_nothing, nothing_yet, named, geared, housed, asked, ended, within_limits, proceeds, turn, sheet_said, fit, run, reading}
 use Rattle.sheet.proofs.Fronts.{by_N, by_G, by_D, by_R, by_E}
 use Rattle.sheet.proofs.Turns.{turn_taken}
 use Rattle.sheet.proofs.Runs.{run_done, run_on, run_more}

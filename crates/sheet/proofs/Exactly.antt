@@ -1,7 +1,7 @@
 -- Reading is exact, and a sheet's bytes are its own. Assumes nothing.
-use Rattle.std.proofs.Common.{◌≡◌, ℕ, ◌≤◌, List, ◌++◌, length, sym, ap, ◌∙◌, subst, arith, length-append}
-use Rattle.model.specs.Sheet.{Sheet, Fits, sheet_bytes}
-use Rattle.sheet.specs.Reading.{fit, unfit, reading}
+use Rattle.std.proofs.Common.{◌≡◌, ℕ, List, ◌++◌, sym, ap, ◌∙◌, subst, arith, length-append}
+use Rattle.model.specs.Sheet.{sheet_bytes}
+use Rattle.sheet.specs.Reading.{fit, reading}
 use Rattle.sheet.specs.Exact.{ReadsExactly, OneSheet}
 use Rattle.sheet.proofs.Accepts.{accepted}
 use Rattle.sheet.proofs.Only.{Bytes, Told, told}

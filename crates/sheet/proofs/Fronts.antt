@@ -1,7 +1,7 @@
 -- The command at the front of some bytes, by its letter. Assumes nothing.
-use Rattle.std.proofs.Common.{◌≡◌, ℕ, suc, ◌+◌, ◌-◌, ◌*◌, ◌<◌, ◌≤◌, cond, eqb, leb, List, length, get_or, take, drop, Some, None, Option, sym, refl, ap, ◌∙◌, subst, arith, length-drop, length-take}
+use Rattle.std.proofs.Common.{◌≡◌, ℕ, suc, ◌+◌, ◌-◌, ◌*◌, ◌<◌, ◌≤◌, cond, eqb, leb, List, length, get_or, take, drop, Some, None, Option, subst, arith, length-drop, length-take}
 use Rattle.std.proofs.lemmas.List.{take_rest, get_or_past}
-use Rattle.std.proofs.lemmas.Bool.{cond-true, cond-false, cond_both, le-leb, leb-true, lt-leb, eq-eqb, ne_eqb}
+use Rattle.std.proofs.lemmas.Bool.{cond_both, le-leb, leb-true, ne_eqb}
 use Rattle.model.specs.Sheet.{letter_n, letter_g, letter_d, letter_r, letter_e}
 use Rattle.sheet.specs.Commands.{Said, WholeName, request, front_of, name_front, geometry_front, disk_front, request_front, end_front}
 

@@ -1,5 +1,5 @@
 -- The sheet of a reading is within the limits, whether it was read or is blank. Assumes nothing.
-use Rattle.std.proofs.Common.{◌≡◌, ℕ, zero, suc, ◌-◌, ◌<◌, ◌≤◌, List, [], ◌∷◌, length, get_or, take, drop, replicate, Ok, Err, Result, sym, refl, ap, ◌∙◌, subst, ⊎_elim, arith, length-take}
+use Rattle.std.proofs.Common.{◌≡◌, ℕ, zero, suc, ◌-◌, ◌<◌, ◌≤◌, List, length, get_or, take, replicate, Ok, Err, Result, refl, subst, ⊎_elim, arith, length-take}
 use Rattle.std.proofs.lemmas.List.{get_or-replicate, get_or_past, get_or-take, length-take-le}
 use Rattle.std.proofs.lemmas.Bool.{cases_lt}
 use Rattle.model.specs.Sheet.{Fits}

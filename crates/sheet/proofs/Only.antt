@@ -1,14 +1,14 @@
 -- Only the bytes of a sheet within the limits are read as a sheet, and what a refusal leaves. Assumes nothing.
-use Rattle.std.proofs.Common.{◌≡◌, ℕ, zero, suc, ◌+◌, ◌-◌, ◌*◌, ◌/◌, ◌%◌, ◌<◌, ◌≤◌, Bool, true, false, cond, ◌&&◌, eqb, ltb, leb, List, [], ◌∷◌, ◌++◌, length, get_or, take, drop, set, Some, None, Option, sym, refl, ap, ◌∙◌, subst, ⊎_elim, append_assoc, append-nil, arith, length-append, length-drop, length-set, take-append-drop, length-take, get_or-set_other, get_or-set_same}
+use Rattle.std.proofs.Common.{◌≡◌, ℕ, zero, suc, ◌+◌, ◌-◌, ◌*◌, ◌/◌, ◌%◌, ◌<◌, ◌≤◌, true, false, cond, eqb, ltb, leb, List, [], ◌∷◌, ◌++◌, length, get_or, take, drop, Some, None, Option, sym, refl, ap, ◌∙◌, subst, ⊎_elim, append_assoc, append-nil, arith, length-append, length-drop, length-set, take-append-drop, length-take, get_or-set_other, get_or-set_same}
 use Rattle.std.specs.List.{flat_map}
 use Rattle.std.proofs.lemmas.List.{flat_map_more, take_more_set, drop-drop, drop-set-lt, get_or_append_left, get_or_push, get_or-take, length-take-le, nil_from_length}
 use Rattle.std.proofs.lemmas.Bool.{cond_both, leb-true, ltb-true, ltb-false, eqb-true, and_parts, or_cases, cases_eq}
 use Rattle.records.specs.Records.{written_over}
-use Rattle.model.specs.Sheet.{Sheet, RackFits, Fits, Between, sheet_bytes, name_bytes, rack_bytes, geometry_bytes, disk_bytes, request_bytes, end_bytes}
+use Rattle.model.specs.Sheet.{Fits, Between, sheet_bytes, name_bytes, rack_bytes, geometry_bytes, disk_bytes, request_bytes, end_bytes}
 use Rattle.sheet.specs.declared.fault.SheetCause.TheVariants.{RanOut, OutOfPlace, OutsideLimits, NotThere, TooMany, TooFewBlocks, NoSlotLeft}
 use Rattle.sheet.specs.declared.stage.Stage.{Stage}
 use Rattle.sheet.specs.declared.stage.Stage.TheVariants.{Name, Geometry, Blocks, Requests, Nothing}
-use Rattle.sheet.specs.Commands.{Said, name, geometry, disk, request, end, front_of}
+use Rattle.sheet.specs.Commands.{Said, front_of}
 use Rattle.sheet.specs.Reading.{SoFar, takes, rack_said, sheet_said, named, geared, housed, asked, ended, within_limits, Took, kept, refused, took, Turn, proceeds, stops, fault, after_taking, after_parsing, turn, is_nothing, complete, nothing_yet, Verdict, fit, unfit, Outcome, onward, run, reading}
 use Rattle.sheet.proofs.Fronts.{by_N, by_G, by_D, by_R, by_E}
 use Rattle.sheet.specs.declared.fault.SheetFault.{SheetFault}

@@ -1,12 +1,12 @@
 -- Runs: one command at a time, and commands enough. Assumes nothing.
-use Rattle.std.proofs.Common.{◌≡◌, ℕ, zero, suc, ◌<◌, ◌≤◌, Bool, true, false, cond, List, length, Ok, Err, Result, sym, refl, ap, ◌∙◌, subst, arith}
+use Rattle.std.proofs.Common.{◌≡◌, ℕ, zero, suc, ◌<◌, ◌≤◌, Bool, true, false, cond, List, length, Ok, Err, Result, sym, refl, ◌∙◌, arith}
 use Rattle.model.specs.Sheet.{Sheet}
 use Rattle.sheet.specs.declared.fault.SheetFault.{SheetFault}
 use Rattle.sheet.specs.declared.draft.Draft.{Draft}
 use Rattle.sheet.specs.declared.header.Header.{Header}
 use Rattle.sheet.specs.Drafts.{so_far}
 use Rattle.sheet.specs.Headers.{sheet_of, outcome_of}
-use Rattle.sheet.specs.Reading.{SoFar, sheet_said, Turn, proceeds, stops, turn, turn_answer, turn_left, Verdict, fit, unfit, Outcome, complete, onward, run}
+use Rattle.sheet.specs.Reading.{SoFar, sheet_said, Turn, proceeds, stops, turn, turn_answer, turn_left, fit, unfit, Outcome, complete, onward, run}
 
 abbrev done : SoFar → Outcome
 done s = record { verdict = fit (sheet_said s); slots = s.slots }

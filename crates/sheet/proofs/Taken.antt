@@ -1,7 +1,6 @@
 -- One command taken, or refused. Assumes nothing.
-use Rattle.std.proofs.Common.{◌≡◌, ℕ, ◌+◌, ◌<◌, ◌≤◌, Bool, true, false, cond, ltb, List, [], ◌∷◌, ◌++◌, length, take, set, Ok, Err, Result, sym, refl, ap, ◌∙◌, arith}
-use Rattle.std.proofs.lemmas.List.{take_more_set, length-take-le}
-use Rattle.std.proofs.lemmas.Bool.{cond-true, cond-false, lt-ltb, le-ltb}
+use Rattle.std.proofs.Common.{◌≡◌, ℕ, ◌<◌, ◌≤◌, false, ltb, List, [], ◌∷◌, ◌++◌, length, Ok, sym, ap}
+use Rattle.std.proofs.lemmas.Bool.{lt-ltb, le-ltb}
 use Rattle.sheet.specs.declared.fault.SheetCause.TheVariants.{NoSlotLeft}
 use Rattle.sheet.specs.declared.stage.Stage.TheVariants.{Blocks}
 use Rattle.sheet.specs.declared.draft.Draft.{Draft}

@@ -6,7 +6,7 @@ use Rattle.model.specs.Sheet.{Sheet, Fits, sheet_bytes, name_bytes, rack_bytes, 
 use Rattle.sheet.specs.declared.fault.SheetFault.{SheetFault}
 use Rattle.sheet.specs.declared.stage.Stage.{Stage}
 use Rattle.sheet.specs.declared.stage.Stage.TheVariants.{Name, Geometry, Blocks, Requests, Nothing}
-use Rattle.sheet.specs.Reading.{SoFar, nothing_yet, sheet_said, complete, Turn, proceeds, stops, turn, Verdict, fit, unfit, reading}
+use Rattle.sheet.specs.Reading.{SoFar, nothing_yet, sheet_said, complete, proceeds, stops, turn, fit, unfit, reading}
 
 -- the bytes of the commands so far
 abbrev pub bytes_said : Stage → Sheet → List ℕ

@@ -1,4 +1,4 @@
-use Rattle.std.proofs.Common.{◌≡◌, ◌<◌, length, sym, ap, ◌∙◌, arith, ltb-false, ltb-true}
+use Rattle.std.proofs.Common.{◌<◌, length, sym, ap, ◌∙◌, arith, ltb-false, ltb-true}
 use Rattle.model.specs.declared.Command.TheVariants.{Opens, Trades}
 use Rattle.model.specs.Verdict.{Known}
 use Rattle.plan.proofs.Fronts.{nothing, by_O, by_X, by_S, by_W, by_E, by_other}

@@ -1,8 +1,7 @@
-use Rattle.std.proofs.Common.{◌≡◌, ℕ, suc, ◌+◌, ◌≤◌, false, List, [], length, take, drop, Ok, Err, sym, refl, ap, ◌∙◌, subst, arith, length-drop}
-use Rattle.std.proofs.lemmas.List.{length-take-le, drop-drop}
+use Rattle.std.proofs.Common.{◌≡◌, ℕ, suc, ◌≤◌, length, take, sym, refl, ap, ◌∙◌, subst, arith}
+use Rattle.std.proofs.lemmas.List.{length-take-le}
 use Rattle.std.proofs.lemmas.Result.{err_from_is_err_and}
-use Rattle.model.specs.declared.Exchange.{Exchange}
-use Rattle.model.specs.Verdict.{State, begin, Outcome, refused}
+use Rattle.model.specs.Verdict.{State}
 use Rattle.sheet.specs.Sheets.{meant}
 use Rattle.plan.specs.Steps.{run_for, verdict_for, step_left}
 use Rattle.plan.specs.Tracks.{whole}

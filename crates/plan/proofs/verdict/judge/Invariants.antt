@@ -1,4 +1,4 @@
-use Rattle.std.proofs.Common.{◌≡◌, ℕ, suc, ◌+◌, ◌≤◌, length, take, drop}
+use Rattle.std.proofs.Common.{◌≡◌, suc, ◌+◌, ◌≤◌, length, take, drop}
 use Rattle.sheet.specs.Sheets.{meant}
 use Rattle.plan.specs.Steps.{run_for, verdict_for}
 use Rattle.plan.specs.Tracks.{whole}

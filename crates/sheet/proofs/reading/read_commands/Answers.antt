@@ -1,8 +1,8 @@
-use Rattle.std.proofs.Common.{◌≡◌, ℕ, suc, List, length, sym, refl, ap, ◌∙◌, subst, arith, rules}
+use Rattle.std.proofs.Common.{ℕ, suc, List, length, sym, refl, ap, ◌∙◌, subst, arith}
 use Rattle.std.proofs.lemmas.List.{length-take-le}
 use Rattle.std.proofs.lemmas.Result.{err_from_is_err_and}
 use Rattle.sheet.specs.Drafts.{so_far}
-use Rattle.sheet.specs.Reading.{Outcome, SoFar, sheet_said, fit, turn, turn_left, run, reading}
+use Rattle.sheet.specs.Reading.{Outcome, SoFar, sheet_said, turn, turn_left, run, reading}
 use Rattle.sheet.proofs.Only.{Told, told}
 use Rattle.sheet.proofs.Runs.{went_on, was_stopped, leads_on, leads_to_end, leads_to_stop, answer_ok, answer_err}
 use Rattle.sheet.proofs.reading.read_commands.Goals as goal

@@ -1,7 +1,5 @@
-use Rattle.std.proofs.Common.{◌≡◌, ℕ, List, Err, sym, ap, ◌∙◌}
+use Rattle.std.proofs.Common.{Err, sym, ap, ◌∙◌}
 use Rattle.std.proofs.lemmas.Result.{err_from_is_err_and}
-use Rattle.model.specs.Timetable.{Side}
-use Rattle.model.specs.declared.Exchange.{Exchange}
 use Rattle.model.specs.Verdict.{after}
 use Rattle.plan.specs.Tracks.{whole, left_by}
 use Rattle.plan.proofs.Traded.{faulty_by, clean_by}

@@ -1,4 +1,4 @@
-use Rattle.std.proofs.Common.{◌≡◌, ℕ, ◌<◌, ◌≤◌, List, length, get_or, sym, ap, ◌∙◌, arith}
+use Rattle.std.proofs.Common.{ℕ, List, get_or, sym, ap, ◌∙◌, arith}
 use Rattle.model.specs.Sheet.{Rack}
 use Rattle.model.specs.Timetable.{Side}
 use Rattle.model.specs.declared.Exchange.{Exchange}

@@ -1,10 +1,10 @@
-use Rattle.std.proofs.Common.{◌≡◌, ℕ, ◌+◌, ◌-◌, ◌<◌, ◌≤◌, List, length, take, Ok, Err, sym, refl, ap, ◌∙◌, subst, arith, length-drop}
-use Rattle.std.proofs.lemmas.Result.{err_from_is_err_and, IfOk-from_err}
-use Rattle.model.specs.Verdict.{State, first, size}
+use Rattle.std.proofs.Common.{ℕ, ◌-◌, ◌≤◌, length, take, Ok, Err, sym, refl, ap, ◌∙◌, arith, length-drop}
+use Rattle.std.proofs.lemmas.Result.{err_from_is_err_and}
+use Rattle.model.specs.Verdict.{State, size}
 use Rattle.sheet.specs.Sheets.{meant}
 use Rattle.plan.specs.Admitted.{admitted, told_of}
 use Rattle.plan.specs.Steps.{step_answer, step_left, stepped}
-use Rattle.plan.specs.Tracks.{whole, after_for, left_by}
+use Rattle.plan.specs.Tracks.{whole, left_by}
 use Rattle.plan.proofs.Stepped.{refused, lets, goes, faults, told_err, told_ok, small, one_step}
 use Rattle.plan.proofs.Traded.{faulty_by, clean_by}
 use Rattle.model.specs.declared.Command.{Command}

@@ -1,4 +1,4 @@
-use Rattle.std.proofs.Common.{◌<◌, length, get_or, take, subst, arith}
+use Rattle.std.proofs.Common.{◌<◌, get_or, take, subst, arith}
 use Rattle.std.proofs.lemmas.List.{length-take-le, get_or-take}
 use Rattle.sheet.proofs.draft.Draft.header.Goals as goal
 
@@ -18,6 +18,6 @@ invariant_of-rack c =
       enough_blocks = omega (arith, r.blocks.0);
       few_blocks = d.few_blocks;
       on_disks = λ b l.
-        let there : get_or (take d.blocks d.homes) b 0 < d.disks = r.homes b (omega arith) in
-        subst (λ x. x < d.disks) (get_or-take d.blocks d.homes b 0 l) there;
+          let there : get_or (take d.blocks d.homes) b 0 < d.disks = r.homes b (omega arith) in
+          subst (λ x. x < d.disks) (get_or-take d.blocks d.homes b 0 l) there;
     }

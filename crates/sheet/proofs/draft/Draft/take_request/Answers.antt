@@ -1,8 +1,8 @@
-use Rattle.std.proofs.Common.{◌≡◌, ◌<◌, ◌≤◌, false, ltb, length, take, Err, sym, ap, ◌∙◌, arith, rules, ltb-false}
+use Rattle.std.proofs.Common.{◌≡◌, false, ltb, length, Err, sym, ap, ◌∙◌, arith, rules, ltb-false}
 use Rattle.std.proofs.lemmas.List.{set_past, length-take-le}
 use Rattle.std.proofs.lemmas.Result.{err_from_is_err_and}
 use Rattle.std.proofs.lemmas.Bool.{cond-false}
-use Rattle.sheet.specs.Drafts.{so_far, answered, left}
+use Rattle.sheet.specs.Drafts.{so_far, answered}
 use Rattle.records.proofs.Pushes.{full_by}
 use Rattle.sheet.proofs.Taken.{took_full, full_after}
 use Rattle.sheet.proofs.draft.Draft.take_request.Goals as goal

@@ -1,6 +1,5 @@
-use Rattle.std.proofs.Common.{◌≡◌, length, sym, refl, ap, ◌∙◌, subst, arith}
+use Rattle.std.proofs.Common.{length, sym, refl, ap, ◌∙◌, subst, arith}
 use Rattle.model.specs.Sheet.{Fits}
-use Rattle.sheet.specs.Headers.{sheet_of}
 use Rattle.sheet.specs.Reading.{Outcome}
 use Rattle.sheet.specs.Sheets.{fault_in, sheet_after}
 use Rattle.sheet.proofs.Exactly.{exactly, one_sheet}

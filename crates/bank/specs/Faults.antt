@@ -1,7 +1,7 @@
 -- Each fault of a bank with its number, its layer and its place.
 use Rattle.std.specs.Prelude.{ℕ, List}
-use Rattle.refusal.specs.declared.Layer.TheVariants.{Bank}
-use Rattle.refusal.specs.declared.Refusal.{Refusal}
+use Rattle.refusal.specs.declared.refusal.Layer.TheVariants.{Bank}
+use Rattle.refusal.specs.declared.refusal.Refusal.{Refusal}
 use Rattle.refusal.specs.Line.{line}
 use Rattle.bank.specs.declared.fault.BankFault.{BankFault}
 use Rattle.bank.specs.declared.fault.BankFault.TheVariants.{NoSuchBlock, DiskBusy, NothingToCollect, NotDue, BufferTooShort, LengthsDiffer, OutsideLimits}

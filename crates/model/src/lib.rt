@@ -10,9 +10,10 @@ ghost use Rattle.model.specs.Worked.{WorkedRows, WorkedEdges, ModelTells};
 
 pub mod mirror;
 pub mod pass;
+mod told;
 
 // An exchange: the block that it brings in, the block that it sends out, and the boundary at which it starts.
-#[derive(Clone, Copy)]
+#[derive(Clone, Copy, Debug, PartialEq, Eq)]
 pub struct Exchange {
     pub brings: u16,
     pub sends: u16,
@@ -20,7 +21,7 @@ pub struct Exchange {
 }
 
 // The commands of a plan: `O` with a block, `X` with the block in and the block out, `S`, `W` and `E`.
-#[derive(Clone, Copy)]
+#[derive(Clone, Copy, Debug, PartialEq, Eq)]
 pub enum Command {
     Opens(u16),
     Trades(u16, u16),
@@ -30,7 +31,7 @@ pub enum Command {
 }
 
 // Why plan bytes are refused; beside each the number that a caller is told.
-#[derive(Clone, Copy)]
+#[derive(Clone, Copy, Debug, PartialEq, Eq)]
 pub enum Cause {
     // 7: the bytes run out
     RunsOut,
@@ -58,7 +59,7 @@ pub enum Cause {
 
 // Where a block is: away from this boundary on (a look-up past all blocks gives away from 0), or here from this
 // boundary on.
-#[derive(Clone, Copy)]
+#[derive(Clone, Copy, Debug, PartialEq, Eq)]
 pub enum Mark {
     Away(u32),
     Here(u32),
@@ -66,7 +67,7 @@ pub enum Mark {
 
 // How far a plan is read: in its opening, at a boundary where nothing has started yet, at one where something has,
 // or past its end.
-#[derive(Clone, Copy)]
+#[derive(Clone, Copy, Debug, PartialEq, Eq)]
 pub enum Phase {
     Filling,
     Standing,

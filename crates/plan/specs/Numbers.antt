@@ -1,6 +1,6 @@
 -- The refusal that a caller is told of a plan. Assumes nothing.
-use Rattle.refusal.specs.declared.Refusal.{Refusal}
-use Rattle.refusal.specs.declared.Layer.TheVariants.{Plan}
+use Rattle.refusal.specs.declared.refusal.Refusal.{Refusal}
+use Rattle.refusal.specs.declared.refusal.Layer.TheVariants.{Plan}
 use Rattle.model.specs.Verdict.{number}
 use Rattle.plan.specs.declared.fault.PlanFault.{PlanFault}
 

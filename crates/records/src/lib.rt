@@ -3,7 +3,6 @@
 #![tactic(auto)]
 
 mod full;
-mod held;
 mod list;
 
 pub use full::ListFull;

@@ -3,9 +3,9 @@ ghost use Rattle.std.specs.List.{slice_get};
 ghost use Rattle.records.specs.Records.{held, pushed, length_after};
 
 use crate::full::ListFull;
-use crate::held::held_at;
 
-// The first `len` slots are the list; the others keep what the caller left in them.
+// The first `len` slots are the list; the others keep what the caller left in them. The length stands beside the slots because
+// the slots are the caller's: no call of the library allocates.
 #[derive(Drop)]
 pub struct List<'a, T> {
     slots: &'a mut [T],
@@ -51,6 +51,6 @@ impl<T: Copy> List<'_, T> {
     pub fn get(&self, at: usize) -> Option<T>
         ensures { result ≡ slice_get (held self.now.len self.now.slots.now) at }
     {
-        held_at(self.slots, self.len, at)
+        self.slots[0..self.len].get(at).copied()
     }
 }

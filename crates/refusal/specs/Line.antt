@@ -1,8 +1,8 @@
 -- A refusal's line: the word `refused`, its number, its layer and its place, with single spaces between.
 use Rattle.std.specs.Prelude.{ℕ, List, ◌++◌, codes, decimal}
-use Rattle.refusal.specs.declared.Layer.{Layer}
-use Rattle.refusal.specs.declared.Layer.TheVariants.{Sheet, Plan, Pass, Replay, Bank}
-use Rattle.refusal.specs.declared.Refusal.{Refusal}
+use Rattle.refusal.specs.declared.refusal.Layer.{Layer}
+use Rattle.refusal.specs.declared.refusal.Layer.TheVariants.{Sheet, Plan, Pass, Replay, Bank}
+use Rattle.refusal.specs.declared.refusal.Refusal.{Refusal}
 
 -- a layer's name
 abbrev pub word : Layer → List ℕ

@@ -1,7 +1,7 @@
 -- The number of each cause, and the refusal that a caller is told. Assumes nothing.
 use Rattle.std.specs.Prelude.{ℕ}
-use Rattle.refusal.specs.declared.Refusal.{Refusal}
-use Rattle.refusal.specs.declared.Layer.TheVariants.{Sheet}
+use Rattle.refusal.specs.declared.refusal.Refusal.{Refusal}
+use Rattle.refusal.specs.declared.refusal.Layer.TheVariants.{Sheet}
 use Rattle.sheet.specs.declared.fault.SheetCause.{SheetCause}
 use Rattle.sheet.specs.declared.fault.SheetCause.TheVariants.{RanOut, OutOfPlace, OutsideLimits, NotThere, TooMany, TooFewBlocks, NoSlotLeft}
 use Rattle.sheet.specs.declared.fault.SheetFault.{SheetFault}

@@ -7,6 +7,7 @@ use Rattle.model.specs.Timetable.{Exchange, none, bit, count, Act, Serve, Wait, 
 use Rattle.model.specs.PlanBytes.{Command, Opens, Ends, command_bytes, act_command, trade_command, starting_at, step_commands, plan_commands, plan_bytes}
 use Rattle.model.specs.Layout.{letter, started_by, letter_at, StepLetters}
 use Rattle.model.proofs.Counting.{count_none}
+use Rattle.std.proofs.lemmas.List.Concat.{flat_map-append}
 
 -- the steps of one list of acts after those of another
 steps_append : (a b : List Act) (t : ℕ) (xs : List Exchange) → step_commands t (a ++ b) xs ≡ step_commands t a xs ++ step_commands (t + length a) b xs
@@ -19,10 +20,6 @@ steps_append (act ∷ a) b t xs =
     subst (λ (k : ℕ). step_commands (t + 1) (a ++ b) xs ≡ step_commands (t + 1) a xs ++ step_commands k b xs) n e in
     let f = append_assoc (map trade_command (starting_at t xs)) (act_command act ∷ step_commands (t + 1) a xs) (step_commands (t + suc (length a)) b xs) in
     cc
-
-joined_append : (cs ds : List Command) → flat_map command_bytes (cs ++ ds) ≡ flat_map command_bytes cs ++ flat_map command_bytes ds
-joined_append [] ds = refl
-joined_append (c ∷ cs) ds = ap (λ (bs : List ℕ). command_bytes c ++ bs) (joined_append cs ds) ∙ sym (append_assoc (command_bytes c) (flat_map command_bytes cs) (flat_map command_bytes ds))
 
 length_opens : (bs : List ℕ) → length (flat_map command_bytes (map Opens bs)) ≡ 3 * length bs
 length_opens [] = refl
@@ -72,7 +69,7 @@ length_steps [] t xs = rw (add-zero t) (omega arith)
 length_steps (act ∷ acts) t xs =
     let rest : List Command = step_commands (t + 1) acts xs in
     let a : length (flat_map command_bytes (map trade_command (starting_at t xs) ++ (act_command act ∷ rest))) ≡ length (flat_map command_bytes (map trade_command (starting_at t xs)) ++ flat_map command_bytes (act_command act ∷ rest)) =
-    ap (λ (bs : List ℕ). length bs) (joined_append (map trade_command (starting_at t xs)) (act_command act ∷ rest)) in
+    ap (λ (bs : List ℕ). length bs) (flat_map-append command_bytes (map trade_command (starting_at t xs)) (act_command act ∷ rest)) in
     let b = length-append (flat_map command_bytes (map trade_command (starting_at t xs))) (flat_map command_bytes (act_command act ∷ rest)) in
     let c = length_trades (starting_at t xs) in
     let d = length_starting t xs in
@@ -117,8 +114,8 @@ module _ (plan : Plan) (t : ℕ) (l : t < length plan.acts) where
       let a : List Command = step_commands 0 (take t plan.acts) xs in
       let b : List Command = map trade_command (starting_at t xs) in
       let n = length-take-le t plan.acts (omega arith) in
-      let c : length (flat_map command_bytes (o ++ (a ++ b))) ≡ length (flat_map command_bytes o ++ flat_map command_bytes (a ++ b)) = ap (λ (bs : List ℕ). length bs) (joined_append o (a ++ b)) in
-      let d : length (flat_map command_bytes (a ++ b)) ≡ length (flat_map command_bytes a ++ flat_map command_bytes b) = ap (λ (bs : List ℕ). length bs) (joined_append a b) in
+      let c : length (flat_map command_bytes (o ++ (a ++ b))) ≡ length (flat_map command_bytes o ++ flat_map command_bytes (a ++ b)) = ap (λ (bs : List ℕ). length bs) (flat_map-append command_bytes o (a ++ b)) in
+      let d : length (flat_map command_bytes (a ++ b)) ≡ length (flat_map command_bytes a ++ flat_map command_bytes b) = ap (λ (bs : List ℕ). length bs) (flat_map-append command_bytes a b) in
       let e : starts_before xs (0 + length (take t plan.acts)) ≡ starts_before xs t = ap (λ (k : ℕ). starts_before xs k) up in
       let f : starts_before xs 0 ≡ 0 = count_none (λ x. ltb x.start 0) xs (λ j m. le-ltb (get_or xs j none).start 0 (omega arith)) in
       let g = count_sum (λ x. ltb x.start t) (λ x. eqb x.start t) (λ x. leb x.start t) (λ x. at_or_before x.start t) xs in
@@ -132,7 +129,7 @@ module _ (plan : Plan) (t : ℕ) (l : t < length plan.acts) where
   step_letter =
       let act : Act = get_or plan.acts t Wait in
       let e : flat_map command_bytes (plan_commands plan) ≡ flat_map command_bytes front ++ (letter act ∷ flat_map command_bytes rest) =
-      ap (λ (cs : List Command). flat_map command_bytes cs) cut ∙ (joined_append front (act_command act ∷ rest) ∙ ap (λ (bs : List ℕ). flat_map command_bytes front ++ bs) (one act)) in
+      ap (λ (cs : List Command). flat_map command_bytes cs) cut ∙ (flat_map-append command_bytes front (act_command act ∷ rest) ∙ ap (λ (bs : List ℕ). flat_map command_bytes front ++ bs) (one act)) in
       ap (λ (bs : List ℕ). get_or bs (letter_at plan t) 0) e ∙ get_or_at (flat_map command_bytes front) (letter act) (flat_map command_bytes rest) 0 (letter_at plan t) length_before
     where
       one : (b : Act) → flat_map command_bytes (act_command b ∷ rest) ≡ letter b ∷ flat_map command_bytes rest
@@ -141,15 +138,3 @@ module _ (plan : Plan) (t : ℕ) (l : t < length plan.acts) where
 
 pub step_letters : StepLetters
 step_letters plan t l = step_letter plan t l
-
--- The number of exchanges started by a boundary, as a place in a list: those before it start by then, those from it
--- on later.
-pub started_by_lem : (xs : List Exchange) (t j : ℕ) → j ≤ length xs → ((k : ℕ) → k < j → (get_or xs k none).start ≤ t) → ((k : ℕ) → j ≤ k → k < length xs → t < (get_or xs k none).start) → started_by xs t ≡ j
-unfolding count
-started_by_lem [] t j m f g = omega arith
-started_by_lem (x ∷ xs) t zero m f g =
-    count_none (λ y. leb y.start t) (x ∷ xs) (λ k l. lt-leb (get_or (x ∷ xs) k none).start t (g k (omega arith) l))
-started_by_lem (x ∷ xs) t (suc j) m f g =
-    let e : bit (leb x.start t) ≡ 1 = ap bit (le-leb x.start t (f 0 (omega arith))) in
-    let h = started_by_lem xs t j (omega arith) (λ k l. f (suc k) (omega arith)) (λ k i l. g (suc k) (omega arith) (omega arith)) in
-    omega arith

@@ -22,7 +22,6 @@ pub mod Mirroring
 pub mod Twice
 pub mod Sizes
 pub mod Letters
-pub mod MirrorWriting
 pub mod Images
 pub mod PassRows
 pub mod Choosing

@@ -66,9 +66,6 @@ block_again b = omega arith
 not_missing : {X : Type 0} (c : Command) → Missing ≡ Known c → X
 not_missing c e = let z : ◌≡◌ {A = ℕ} 0 1 = cc in absurd (omega arith)
 
-nothing_below : {X : Type 0} (m n : ℕ) → n ≤ m → m < n → X
-nothing_below m n h k = absurd (omega arith)
-
 -- a command that was found stands there with all its bytes
 pub reads_back : (rest : List ℕ) (c : Command) → Bytes rest → found rest ≡ Known c → size c ≤ length rest → rest ≡ command_bytes c ++ drop (size c) rest
 reads_back [] c k f h = not_missing c (sym found_none ∙ f)

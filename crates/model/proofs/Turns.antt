@@ -11,10 +11,10 @@ use Rattle.model.proofs.Reading.{AllPass, clean_pass, pass_clean, size_some}
 
 -- a stop is no going on, a refusal no acceptance
 stop_goes : {X : Type 0} {cause : Cause} {place : ℕ} {s : State} {rest : List ℕ} → Stops cause place ≡ Goes s rest → X
-stop_goes e = let z : ◌≡◌ {A = ℕ} 0 1 = cc in absurd (omega arith)
+stop_goes e = absurd (cc)
 
 pub refused_accepted : {X : Type 0} {cause : Cause} {place t w n : ℕ} → Refused cause place ≡ Accepted t w n → X
-refused_accepted e = let z : ◌≡◌ {A = ℕ} 0 1 = cc in absurd (omega arith)
+refused_accepted e = absurd (cc)
 
 module _ (side : Side) (homes : List ℕ) (frames fetch : ℕ) (requests : List ℕ) (room : ℕ) (total : ℕ) where
   -- what a turn that goes on has found

@@ -13,7 +13,7 @@ use Rattle.model.proofs.Marks.{Started, here_resident, landed_late, left_late}
 use Rattle.model.proofs.Progress.{PhaseIs, Tells, tells_begin, tells_opens, tells_trades, tells_serves, tells_waits, lawful_from, each_push}
 use Rattle.model.proofs.Reading.{Bytes, AllPass, reads_back, size_some}
 use Rattle.model.proofs.Writing.{so_far_none, so_far_opens, so_far_trades, so_far_act, so_far_ends}
-use Rattle.model.proofs.Turns.{step_goes, run_more, over_accepts, refused_accepted}
+use Rattle.model.proofs.Turns.{step_goes, run_more, over_accepts}
 
 -- A plan read so far keeps the model as far as it goes.
 pub record Sofar (side : Side) (homes : List ℕ) (fetch : ℕ) (requests : List ℕ) (o : List ℕ) (a : List Act) (xs : List Exchange) : Type 0 where
@@ -343,5 +343,5 @@ pub accepted_plan : (side : Side) (homes : List ℕ) (frames fetch : ℕ) (reque
 accepted_plan side homes frames fetch requests room fit bytes small out T W N acc r = go (reads_bytes side homes frames fetch requests room fit bytes small out r)
   where
     go : StoppedAt side homes frames fetch requests room bytes out ⊎ EndedAt side homes frames fetch requests room bytes out → (plan : Plan) × WrittenBy side homes frames fetch requests bytes plan × (out ≡ plan_outcome plan)
-    go (inl e) = refused_accepted (sym (ap (λ (u : Outcome). u.answer) e.said) ∙ acc)
+    go (inl e) = let f = ap (λ (u : Outcome). u.answer) e.said in absurd (cc)
     go (inr e) = ended_accepted side homes frames fetch requests room bytes out e T W N acc

@@ -18,12 +18,9 @@ pub clean_pass : (ts : List Test) → first ts ≡ Clean → AllPass ts
 clean_pass [] h = tt
 clean_pass (t ∷ ts) h = go (λ k. clean_pass ts k) t.passes refl h
   where
-    no_fault : {X : Type 0} (c : Cause) → Faulty c ≡ Clean → X
-    no_fault c e = let z : ◌≡◌ {A = ℕ} 0 1 = cc in absurd (omega arith)
-
     go : (first ts ≡ Clean → AllPass ts) → (b : Bool) → t.passes ≡ b → cond b (first ts) (Faulty t.cause) ≡ Clean → (t.passes ≡ true) × AllPass ts
     go more true e k = (e, more k)
-    go more false e k = no_fault t.cause k
+    go more false e k = absurd (cc)
 
 -- the letter of a command that was found, and its blocks
 opens_letter : (l a b d : ℕ) → by_letter l a b ≡ Known (Opens d) → (l ≡ 79) × (a ≡ d)
@@ -63,12 +60,9 @@ high_block l h k = omega arith
 pub block_again : (b : ℕ) → block (low b) (high b) ≡ b
 block_again b = omega arith
 
-not_missing : {X : Type 0} (c : Command) → Missing ≡ Known c → X
-not_missing c e = let z : ◌≡◌ {A = ℕ} 0 1 = cc in absurd (omega arith)
-
 -- a command that was found stands there with all its bytes
 pub reads_back : (rest : List ℕ) (c : Command) → Bytes rest → found rest ≡ Known c → size c ≤ length rest → rest ≡ command_bytes c ++ drop (size c) rest
-reads_back [] c k f h = not_missing c (sym found_none ∙ f)
+reads_back [] c k f h = let e = found_none in absurd (cc)
 reads_back (l ∷ rest) Serves k f h = ap (λ (n : ℕ). n ∷ rest) (serves_letter l (block (get_or (l ∷ rest) 1 0) (get_or (l ∷ rest) 2 0)) (block (get_or (l ∷ rest) 3 0) (get_or (l ∷ rest) 4 0)) (sym (found_cons l rest) ∙ f))
 reads_back (l ∷ rest) Waits k f h = ap (λ (n : ℕ). n ∷ rest) (waits_letter l (block (get_or (l ∷ rest) 1 0) (get_or (l ∷ rest) 2 0)) (block (get_or (l ∷ rest) 3 0) (get_or (l ∷ rest) 4 0)) (sym (found_cons l rest) ∙ f))
 reads_back (l ∷ rest) Ends k f h = ap (λ (n : ℕ). n ∷ rest) (ends_letter l (block (get_or (l ∷ rest) 1 0) (get_or (l ∷ rest) 2 0)) (block (get_or (l ∷ rest) 3 0) (get_or (l ∷ rest) 4 0)) (sym (found_cons l rest) ∙ f))

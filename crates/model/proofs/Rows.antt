@@ -11,7 +11,6 @@ use Rattle.model.specs.Worked.{WorkedRows, WorkedEdges, ModelTells, homes6, requ
 use Rattle.model.proofs.Exact.{accepts_exactly}
 use Rattle.model.proofs.Gather.{gather, gather_plan}
 use Rattle.model.proofs.Once.{keeps_form}
-use Rattle.model.proofs.Turns.{refused_accepted}
 
 pub worked_rows : WorkedRows
 unfolding verdict run step after found blank_marks blank_idle
@@ -83,5 +82,5 @@ model_tells =
           let n = exchanges_in_bytes plan (keeps_form Forward homes6 4 2 requests6 plan fit6.lasts w.keeps) in
           let l : length (plan_bytes plan) ≡ 39 = sym (ap (λ (v : List ℕ). length v) w.written) in
           let r = (accepts_exactly Forward homes6 4 2 requests6 8 late6 fit6 (each_below 256 late6 refl)).1 plan w (omega arith) in
-          refused_accepted (sym late ∙ ap (λ (v : Outcome). v.answer) r);
+          let f = ap (λ (v : Outcome). v.answer) r in let g = late in absurd (cc);
     }

@@ -9,13 +9,6 @@ use Rattle.model.specs.Verdict
 use Rattle.model.specs.Verdict.{Accepted, Refused, Outcome, Cause, State, Phase, Filling, Standing, Starting, Over, is_over, Found, Missing, Strange, Known, found, size, Finding, Clean, Faulty, first, tests_of, tests_at, turn_by, Turn, Goes, Stops, place_of, step, run, onward, after, accepted, refused, finished, within_limit}
 use Rattle.model.proofs.Reading.{AllPass, clean_pass, pass_clean, size_some}
 
--- a stop is no going on, a refusal no acceptance
-stop_goes : {X : Type 0} {cause : Cause} {place : ℕ} {s : State} {rest : List ℕ} → Stops cause place ≡ Goes s rest → X
-stop_goes e = absurd (cc)
-
-pub refused_accepted : {X : Type 0} {cause : Cause} {place t w n : ℕ} → Refused cause place ≡ Accepted t w n → X
-refused_accepted e = absurd (cc)
-
 module _ (side : Side) (homes : List ℕ) (frames fetch : ℕ) (requests : List ℕ) (room : ℕ) (total : ℕ) where
   -- what a turn that goes on has found
   pub record Went (s : State) (rest : List ℕ) (s' : State) (rest' : List ℕ) (c : Command) : Type 0 where
@@ -32,9 +25,9 @@ module _ (side : Side) (homes : List ℕ) (frames fetch : ℕ) (requests : List 
 
   went : (s : State) (rest : List ℕ) (s' : State) (rest' : List ℕ) (f : Found) → found rest ≡ f → (w : Finding) → first (tests_of side homes frames fetch requests room s total rest f) ≡ w →
       turn_by side homes frames fetch requests room s total rest f w ≡ Goes s' rest' → (c : Command) × Went s rest s' rest' c
-  went s rest s' rest' f e (Faulty cause) k h = stop_goes h
-  went s rest s' rest' Missing e Clean k h = stop_goes h
-  went s rest s' rest' Strange e Clean k h = stop_goes h
+  went s rest s' rest' f e (Faulty cause) k h = absurd (cc)
+  went s rest s' rest' Missing e Clean k h = absurd (cc)
+  went s rest s' rest' Strange e Clean k h = absurd (cc)
   went s rest s' rest' (Known c) e Clean k h =
       (c, record { finds = e; passes = clean_pass (tests_of side homes frames fetch requests room s total rest (Known c)) k; state = cc; rests = cc })
 
@@ -57,30 +50,37 @@ module _ (side : Side) (homes : List ℕ) (frames fetch : ℕ) (requests : List 
   unfolding run
   run_more n s rest over = rw over
 
-  over_step : (s : State) (rest : List ℕ) (ph : Phase) (f : Found) → is_over ph ≡ true → (t : Turn) →
-      turn_by side homes frames fetch requests room s total rest f (first (tests_at side homes frames fetch requests room s total rest ph f)) ≡ t →
-      (cause : Cause) × ((place : ℕ) × (t ≡ Stops cause place))
-  over_step s rest Filling f e t h = absurd (false≢true e)
-  over_step s rest Standing f e t h = absurd (false≢true e)
-  over_step s rest Starting f e t h = absurd (false≢true e)
-  over_step s rest Over f e t h = go (within_limit total (total - length rest) 1) h
+  -- past the end: stopped, if anything is left
+  over_turn : (s : State) (rest : List ℕ) (ph : Phase) (f : Found) → is_over ph ≡ true →
+      turn_by side homes frames fetch requests room s total rest f (first (tests_at side homes frames fetch requests room s total rest ph f))
+      ≡ Stops (cond (within_limit total (total - length rest) 1) Verdict.OutOfPlace Verdict.OverLimit) (total - length rest)
+  over_turn s rest Filling f e = absurd (false≢true e)
+  over_turn s rest Standing f e = absurd (false≢true e)
+  over_turn s rest Starting f e = absurd (false≢true e)
+  over_turn s rest Over f e = go (within_limit total (total - length rest) 1)
     where
-      go : (c : Bool) → turn_by side homes frames fetch requests room s total rest f (cond c (Faulty Verdict.OutOfPlace) (Faulty Verdict.OverLimit)) ≡ t → (cause : Cause) × ((place : ℕ) × (t ≡ Stops cause place))
-      go true k = (Verdict.OutOfPlace, (total - length rest, sym k))
-      go false k = (Verdict.OverLimit, (total - length rest, sym k))
+      go : (b : Bool) → turn_by side homes frames fetch requests room s total rest f (cond b (Faulty Verdict.OutOfPlace) (Faulty Verdict.OverLimit)) ≡ Stops (cond b Verdict.OutOfPlace Verdict.OverLimit) (total - length rest)
+      go true = refl
+      go false = refl
+
+  over_step : (s : State) (rest : List ℕ) → is_over s.phase ≡ true →
+      step side homes frames fetch requests room total s rest ≡ Stops (cond (within_limit total (total - length rest) 1) Verdict.OutOfPlace Verdict.OverLimit) (total - length rest)
+  unfolding step
+  over_step s rest over = over_turn s rest s.phase (found rest) over
+
+  over_run : (n : ℕ) (s : State) (b : ℕ) (rest : List ℕ) → is_over s.phase ≡ true →
+      run side homes frames fetch requests room (suc n) total s (b ∷ rest) ≡ refused s (cond (within_limit total (total - length (b ∷ rest)) 1) Verdict.OutOfPlace Verdict.OverLimit) (total - length (b ∷ rest))
+  unfolding run
+  over_run n s b rest over =
+      rw (over, eqb-suc-zero (length rest)) (ap (λ (v : Turn). onward (λ t more. run side homes frames fetch requests room n total t more) s v) (over_step s (b ∷ rest) over))
 
   -- past the end: accepted exactly if nothing is left
   pub over_accepts : (n : ℕ) (s : State) (rest : List ℕ) (t w x : ℕ) → is_over s.phase ≡ true → (run side homes frames fetch requests room n total s rest).answer ≡ Accepted t w x →
       (rest ≡ []) × (run side homes frames fetch requests room n total s rest ≡ accepted s)
-  unfolding run step
-  over_accepts zero s rest t w x over h = refused_accepted h
+  unfolding run
+  over_accepts zero s rest t w x over h = absurd (cc)
   over_accepts (suc n) s [] t w x over h = (refl, rw over)
-  over_accepts (suc n) s (b ∷ rest) t w x over h =
-      let k = over_step s (b ∷ rest) s.phase (found (b ∷ rest)) over (step side homes frames fetch requests room total s (b ∷ rest)) refl in
-      let e : run side homes frames fetch requests room (suc n) total s (b ∷ rest) ≡ onward (λ t more. run side homes frames fetch requests room n total t more) s (step side homes frames fetch requests room total s (b ∷ rest)) = rw (over, eqb-suc-zero (length rest)) in
-      let f : (onward (λ t more. run side homes frames fetch requests room n total t more) s (step side homes frames fetch requests room total s (b ∷ rest))).answer ≡ Accepted t w x = ap (λ (o : Outcome). o.answer) (sym e) ∙ h in
-      let g : Refused k.0 k.1.0 ≡ Accepted t w x = subst (λ (v : Turn). (onward (λ t more. run side homes frames fetch requests room n total t more) s v).answer ≡ Accepted t w x) k.1.1 f in
-      refused_accepted g
+  over_accepts (suc n) s (b ∷ rest) t w x over h = let e = ap (λ (o : Outcome). o.answer) (over_run n s b rest over) in absurd (cc)
 
   -- past the end with nothing left
   pub over_ends : (n : ℕ) (s : State) → is_over s.phase ≡ true → run side homes frames fetch requests room (suc n) total s [] ≡ accepted s
@@ -93,9 +93,7 @@ module _ (side : Side) (homes : List ℕ) (frames fetch : ℕ) (requests : List 
   step_shorter s rest s' rest' e = go (cases_Bool (is_over s.phase))
     where
       go : (is_over s.phase ≡ true) ⊎ (is_over s.phase ≡ false) → length rest' < length rest
-      go (inl over) =
-          let k = over_step s rest s.phase (found rest) over (step side homes frames fetch requests room total s rest) refl in
-          stop_goes (sym k.1.1 ∙ e)
+      go (inl over) = let k = over_step s rest over in absurd (cc)
       go (inr over) =
           let w = step_goes s rest s' rest' over e in
           let c : Command = w.0 in
@@ -144,16 +142,6 @@ module _ (side : Side) (homes : List ℕ) (frames fetch : ℕ) (requests : List 
   unfolding run
   run_finishes n s rest e = rw e
 
-  goes_stop : {X : Type 0} {s : State} {rest : List ℕ} {cause : Cause} {place : ℕ} → Goes s rest ≡ Stops cause place → X
-  goes_stop e = let z : ◌≡◌ {A = ℕ} 0 1 = cc in absurd (omega arith)
-
-  faulty_clean : {X : Type 0} {cause : Cause} → Faulty cause ≡ Clean → X
-  faulty_clean e = let z : ◌≡◌ {A = ℕ} 0 1 = cc in absurd (omega arith)
-
-  strange_clean : {X : Type 0} (b : Bool) → cond b (Faulty Verdict.OutOfPlace) (Faulty Verdict.OverLimit) ≡ Clean → X
-  strange_clean true e = faulty_clean e
-  strange_clean false e = faulty_clean e
-
   stopped : (s : State) (rest : List ℕ) (cause : Cause) (place : ℕ) (f : Found) (w : Finding) → first (tests_of side homes frames fetch requests room s total rest f) ≡ w →
       turn_by side homes frames fetch requests room s total rest f w ≡ Stops cause place →
       (first (tests_of side homes frames fetch requests room s total rest f) ≡ Faulty cause) × (place ≡ place_of cause total (total - length rest))
@@ -161,9 +149,13 @@ module _ (side : Side) (homes : List ℕ) (frames fetch : ℕ) (requests : List 
       let e : d ≡ cause = cc in
       let g : place_of d total (total - length rest) ≡ place = cc in
       (k ∙ ap Faulty e, sym g ∙ ap (λ (c : Cause). place_of c total (total - length rest)) e)
-  stopped s rest cause place Missing Clean k h = faulty_clean k
-  stopped s rest cause place Strange Clean k h = strange_clean (within_limit total (total - length rest) 1) k
-  stopped s rest cause place (Known c) Clean k h = goes_stop h
+  stopped s rest cause place Missing Clean k h = absurd (cc)
+  stopped s rest cause place Strange Clean k h = go (within_limit total (total - length rest) 1) k
+    where
+      go : {X : Type 0} (b : Bool) → cond b (Faulty Verdict.OutOfPlace) (Faulty Verdict.OverLimit) ≡ Clean → X
+      go true e = absurd (cc)
+      go false e = absurd (cc)
+  stopped s rest cause place (Known c) Clean k h = absurd (cc)
 
   -- a stop before the end tells the first test that fails
   pub step_stops : (s : State) (rest : List ℕ) (cause : Cause) (place : ℕ) → is_over s.phase ≡ false → step side homes frames fetch requests room total s rest ≡ Stops cause place →
@@ -173,37 +165,14 @@ module _ (side : Side) (homes : List ℕ) (frames fetch : ℕ) (requests : List 
       stopped s rest cause place (found rest) (first (tests_of side homes frames fetch requests room s total rest (found rest))) refl (rw (sym (tests_before s rest s.phase (found rest) over)) h)
 
   -- past the end: refused exactly if something is left
-  over_turn : (s : State) (rest : List ℕ) (ph : Phase) (f : Found) → is_over ph ≡ true →
-      turn_by side homes frames fetch requests room s total rest f (first (tests_at side homes frames fetch requests room s total rest ph f)) ≡ cond (within_limit total (total - length rest) 1) (Stops Verdict.OutOfPlace (total - length rest)) (Stops Verdict.OverLimit (total - length rest))
-  over_turn s rest Filling f e = absurd (false≢true e)
-  over_turn s rest Standing f e = absurd (false≢true e)
-  over_turn s rest Starting f e = absurd (false≢true e)
-  over_turn s rest Over f e = go (within_limit total (total - length rest) 1)
-    where
-      go : (b : Bool) → turn_by side homes frames fetch requests room s total rest f (cond b (Faulty Verdict.OutOfPlace) (Faulty Verdict.OverLimit)) ≡ cond b (Stops Verdict.OutOfPlace (total - length rest)) (Stops Verdict.OverLimit (total - length rest))
-      go true = refl
-      go false = refl
-
-  accepted_refused : {X : Type 0} {cause : Cause} {place t w n : ℕ} → Accepted t w n ≡ Refused cause place → X
-  accepted_refused e = let z : ◌≡◌ {A = ℕ} 0 1 = cc in absurd (omega arith)
-
   pub over_refuses : (n : ℕ) (s : State) (rest : List ℕ) (cause : Cause) (place : ℕ) → is_over s.phase ≡ true → length rest < n → (run side homes frames fetch requests room n total s rest).answer ≡ Refused cause place →
       (0 < length rest) × (place ≡ total - length rest) × (cause ≡ cond (within_limit total (total - length rest) 1) Verdict.OutOfPlace Verdict.OverLimit) × ((run side homes frames fetch requests room n total s rest).records ≡ s.records)
-  unfolding run step
   over_refuses zero s rest cause place over l h = absurd (omega arith)
-  over_refuses (suc n) s [] cause place over l h = accepted_refused (sym (ap (λ (o : Outcome). o.answer) (over_ends n s over)) ∙ h)
+  over_refuses (suc n) s [] cause place over l h = let e = ap (λ (o : Outcome). o.answer) (over_ends n s over) in absurd (cc)
   over_refuses (suc n) s (b ∷ rest) cause place over l h =
-      go (within_limit total (total - length (b ∷ rest)) 1) (run side homes frames fetch requests room (suc n) total s (b ∷ rest)) h
-      (rw (over, eqb-suc-zero (length rest)) (ap (λ (v : Turn). onward (λ t more. run side homes frames fetch requests room n total t more) s v) (over_turn s (b ∷ rest) s.phase (found (b ∷ rest)) over)))
-    where
-      go : (v : Bool) (out : Outcome) → out.answer ≡ Refused cause place → out ≡ onward (λ t more. run side homes frames fetch requests room n total t more) s (cond v (Stops Verdict.OutOfPlace (total - length (b ∷ rest))) (Stops Verdict.OverLimit (total - length (b ∷ rest)))) →
-          (0 < length (b ∷ rest)) × (place ≡ total - length (b ∷ rest)) × (cause ≡ cond v Verdict.OutOfPlace Verdict.OverLimit) × (out.records ≡ s.records)
-      go true out i e =
-          let k : Refused Verdict.OutOfPlace (total - length (b ∷ rest)) ≡ Refused cause place = sym (ap (λ (o : Outcome). o.answer) e) ∙ i in
-          (omega arith, cc, cc, ap (λ (o : Outcome). o.records) e)
-      go false out i e =
-          let k : Refused Verdict.OverLimit (total - length (b ∷ rest)) ≡ Refused cause place = sym (ap (λ (o : Outcome). o.answer) e) ∙ i in
-          (omega arith, cc, cc, ap (λ (o : Outcome). o.records) e)
+      let e = over_run n s b rest over in
+      let k : Refused (cond (within_limit total (total - length (b ∷ rest)) 1) Verdict.OutOfPlace Verdict.OverLimit) (total - length (b ∷ rest)) ≡ Refused cause place = sym (ap (λ (o : Outcome). o.answer) e) ∙ h in
+      (omega arith, cc, cc, ap (λ (o : Outcome). o.records) e)
 
   -- the first test that fails stops the turn
   pub stops_step : (s : State) (rest : List ℕ) (cause : Cause) → is_over s.phase ≡ false → first (tests_of side homes frames fetch requests room s total rest (found rest)) ≡ Faulty cause →
@@ -214,12 +183,6 @@ module _ (side : Side) (homes : List ℕ) (frames fetch : ℕ) (requests : List 
   -- past the end with something left
   pub over_stops : (n : ℕ) (s : State) (rest : List ℕ) → is_over s.phase ≡ true → length rest < n → 0 < length rest →
       run side homes frames fetch requests room n total s rest ≡ refused s (cond (within_limit total (total - length rest) 1) Verdict.OutOfPlace Verdict.OverLimit) (total - length rest)
-  unfolding run step
   over_stops zero s rest over l m = absurd (omega arith)
   over_stops (suc n) s [] over l m = absurd (omega arith)
-  over_stops (suc n) s (b ∷ rest) over l m =
-      rw (over, eqb-suc-zero (length rest)) (ap (λ (v : Turn). onward (λ t more. run side homes frames fetch requests room n total t more) s v) (over_turn s (b ∷ rest) s.phase (found (b ∷ rest)) over) ∙ go (within_limit total (total - length (b ∷ rest)) 1))
-    where
-      go : (v : Bool) → onward (λ t more. run side homes frames fetch requests room n total t more) s (cond v (Stops Verdict.OutOfPlace (total - length (b ∷ rest))) (Stops Verdict.OverLimit (total - length (b ∷ rest)))) ≡ refused s (cond v Verdict.OutOfPlace Verdict.OverLimit) (total - length (b ∷ rest))
-      go true = refl
-      go false = refl
+  over_stops (suc n) s (b ∷ rest) over l m = over_run n s b rest over

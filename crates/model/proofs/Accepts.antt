@@ -23,12 +23,9 @@ pub record Sofar (side : Side) (homes : List ℕ) (fetch : ℕ) (requests : List
   pub lawful : (i : ℕ) → i < length xs → Lawful side homes fetch o (take i xs) (get_or xs i none)
   pub serves : (t : ℕ) → t < length a → get_or a t Wait ≡ Serve → ResidentDuring fetch o xs (wanted requests a t) t
 
-none_below : {X : Type 0} (i : ℕ) → i < 0 → X
-none_below i l = absurd (omega arith)
-
 sofar_begin : (side : Side) (homes : List ℕ) (fetch : ℕ) (requests : List ℕ) → Sofar side homes fetch requests [] [] []
 sofar_begin side homes fetch requests =
-    record { exist = λ i l. none_below i l; rise = λ i j k l. none_below j l; in_order = λ i j k l. none_below j l; lawful = λ i l. none_below i l; serves = λ t l. none_below t l }
+    record { exist = λ i l. absurd (omega arith); rise = λ i j k l. absurd (omega arith); in_order = λ i j k l. absurd (omega arith); lawful = λ i l. absurd (omega arith); serves = λ t l. absurd (omega arith) }
 
 module _ (side : Side) (homes : List ℕ) (fetch : ℕ) (requests : List ℕ) where
   sofar_opens : (o : List ℕ) (b : ℕ) → Sofar side homes fetch requests o [] [] → b < length homes → ((i : ℕ) → i < length o → get_or o i 0 < b) →
@@ -37,9 +34,9 @@ module _ (side : Side) (homes : List ℕ) (fetch : ℕ) (requests : List ℕ) wh
       record {
         exist = each_push o b 0 (λ _ n. n < length homes) h.exist known;
         rise = λ i j k l. each_push o b 0 (λ m n. (i : ℕ) → i < m → get_or (o ++ (b ∷ [])) i 0 < n) (λ m l' i' k'. old m l' i' k') (λ i' k'. new i' k') j l i k;
-        in_order = λ i j k l. none_below j l;
-        lawful = λ i l. none_below i l;
-        serves = λ t l. none_below t l;
+        in_order = λ i j k l. absurd (omega arith);
+        lawful = λ i l. absurd (omega arith);
+        serves = λ t l. absurd (omega arith);
       }
     where
       old : (m : ℕ) → m < length o → (i : ℕ) → i < m → get_or (o ++ (b ∷ [])) i 0 < get_or o m 0
@@ -48,7 +45,7 @@ module _ (side : Side) (homes : List ℕ) (fetch : ℕ) (requests : List ℕ) wh
       new : (i : ℕ) → i < length o → get_or (o ++ (b ∷ [])) i 0 < b
       new i k = omega (arith, get_or_append_left o (b ∷ []) 0 i k, above i k)
 
-  sofar_trades : (o : List ℕ) (a : List Act) (xs : List Exchange) (x : Exchange) → 0 < fetch → Sofar side homes fetch requests o a xs → x.start ≡ length a → Started xs x.start →
+  pub sofar_trades : (o : List ℕ) (a : List Act) (xs : List Exchange) (x : Exchange) → 0 < fetch → Sofar side homes fetch requests o a xs → x.start ≡ length a → Started xs x.start →
       Lawful side homes fetch o xs x → Sofar side homes fetch requests o a (xs ++ (x ∷ []))
   sofar_trades o a xs x f h e started law =
       record {
@@ -74,7 +71,7 @@ module _ (side : Side) (homes : List ℕ) (fetch : ℕ) (requests : List ℕ) wh
       during : (b t : ℕ) → t < length a → ResidentDuring fetch o xs b t → ResidentDuring fetch o (xs ++ (x ∷ [])) b t
       during b t l r = omega (arith, landed_late xs x b fetch t (omega arith), left_late xs x b (t + 1) (omega arith))
 
-  sofar_act : (o : List ℕ) (a : List Act) (xs : List Exchange) (act : Act) → Sofar side homes fetch requests o a xs →
+  pub sofar_act : (o : List ℕ) (a : List Act) (xs : List Exchange) (act : Act) → Sofar side homes fetch requests o a xs →
       (act ≡ Serve → ResidentDuring fetch o xs (get_or requests (served a) 0) (length a)) → Sofar side homes fetch requests o (a ++ (act ∷ [])) xs
   sofar_act o a xs act h now =
       record {
@@ -111,7 +108,7 @@ filling Over b a xs e h = absurd (false≢true e)
 
 -- the end is in place where nothing has started
 resting : (ph : Phase) (a : List Act) (xs : List Exchange) → in_place ph Ends ≡ true → PhaseIs ph a xs → (j : ℕ) → j < length xs → (get_or xs j none).start < length a
-resting Filling a xs e h j l = none_below j (subst (λ (ys : List Exchange). j < length ys) h.1 l)
+resting Filling a xs e h j l = absurd (omega (arith, ap (λ (ys : List Exchange). length ys) h.1))
 resting Standing a xs e h j l = h.0 j l
 resting Starting a xs e h j l = absurd (false≢true e)
 resting Over a xs e h j l = absurd (false≢true e)
@@ -131,9 +128,6 @@ bytes_rest bytes pre rest h e i l =
     let g = get_or-append-add pre rest i 0 in
     let k : get_or (pre ++ rest) (length pre + i) 0 < 256 = subst (λ (ys : List ℕ). Bytes ys) e h (length pre + i) (omega (arith, length-append pre rest)) in
     omega arith
-
-wait_serve : {X : Type 0} → Wait ≡ Serve → X
-wait_serve e = let z : ◌≡◌ {A = ℕ} 0 1 = cc in absurd (omega arith)
 
 pub accepts_as : (s : State) (o : List ℕ) (a : List Act) (xs : List Exchange) → s.boundary ≡ length a → s.waits ≡ waited a → s.records ≡ xs → accepted s ≡ plan_outcome (record { opening = o; acts = a; exchanges = xs })
 accepts_as s o a xs e f g =
@@ -250,7 +244,7 @@ module _ (side : Side) (homes : List ℕ) (frames fetch : ℕ) (requests : List 
   by_command n more o a xs s rest h k t u b Waits p f m r =
       more o (a ++ (Wait ∷ [])) xs (after side homes frames fetch requests room s Waits) (drop 1 rest)
       (tells_waits side homes frames fetch requests room fit o a xs s h)
-      (sofar_act side homes fetch requests o a xs Wait k (λ e. wait_serve e))
+      (sofar_act side homes fetch requests o a xs Wait k (λ e. absurd (cc)))
       (record {
         fits = t.fits;
         filled = λ _. sym h.opened ∙ eqb-true s.opened frames p.1.1.1.0;
@@ -283,10 +277,7 @@ module _ (side : Side) (homes : List ℕ) (frames fetch : ℕ) (requests : List 
           (subst (λ (ys : List ℕ). run side homes frames fetch requests room n (length bytes) s' ys ≡ out) w.1.rests r))
 
   reads : (n : ℕ) → Reads n
-  reads zero = λ o a xs s rest h k t over b m e. absurd (none_left (length rest) m)
-    where
-      none_left : (k : ℕ) → k < 0 → ⊥
-      none_left k l = omega arith
+  reads zero = λ o a xs s rest h k t over b m e. absurd (omega arith)
   reads (suc n) = reads_step n (reads n)
 
   pub reads_bytes : verdict side homes frames fetch requests room bytes ≡ out → Result

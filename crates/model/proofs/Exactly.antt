@@ -11,15 +11,12 @@ use Rattle.model.proofs.Passing.{first, opened, pass_keeps}
 use Rattle.model.proofs.Only.{only_one, during_down}
 use Rattle.model.proofs.Following.{Track, OnTrack, runs_track}
 
-none_below : {X : Type 0} (i : ℕ) → i < 0 → X
-none_below i l = absurd (omega arith)
-
 module _ (side : Side) (homes : List ℕ) (frames fetch : ℕ) (requests o : List ℕ) (rule : Rule) (play : Playable homes frames fetch requests) (law : NeedLaw rule) (fit : FitOpening homes frames o) where
   begins : OnTrack side homes frames fetch requests o rule law play.rack play.known (first side homes frames fetch requests rule o play law fit)
   begins = (
     record { sound = (opened side homes frames fetch requests rule o play law fit).0 },
     subst (λ (xs : List Exchange). Track side homes frames fetch requests o rule [] xs) (sym (opened_records side homes frames fetch requests play.rack o))
-        (record { strict = λ j l. none_below j l; starts_so = λ t l. none_below t l; serves_if = λ t l. none_below t l; goes_on = λ t l. none_below t l }),
+        (record { strict = λ j l. absurd (omega arith); starts_so = λ t l. absurd (omega arith); serves_if = λ t l. absurd (omega arith); goes_on = λ t l. absurd (omega arith) }),
   )
 
   ends : OnTrack side homes frames fetch requests o rule law play.rack play.known (passed side homes frames fetch requests rule o)

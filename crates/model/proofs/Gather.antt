@@ -26,10 +26,7 @@ pub record Extends (o : List ℕ) (a : List Act) (xs : List Exchange) (plan : Pl
 
 pub extends : (cs : List Command) (o : List ℕ) (a : List Act) (xs : List Exchange) → Extends o a xs (gather o a xs cs)
 extends [] o a xs =
-    record { more_opening = []; more_acts = []; more_exchanges = []; opens = sym (append-nil o); acts = sym (append-nil a); trades = sym (append-nil xs); later = λ j l. absurd (never j l) }
-  where
-    never : (j : ℕ) → j < 0 → ⊥
-    never j l = omega arith
+    record { more_opening = []; more_acts = []; more_exchanges = []; opens = sym (append-nil o); acts = sym (append-nil a); trades = sym (append-nil xs); later = λ j l. absurd (omega arith) }
 extends (Opens b ∷ cs) o a xs =
     let e = extends cs (o ++ (b ∷ [])) a xs in
     record { more_opening = b ∷ e.more_opening; more_acts = e.more_acts; more_exchanges = e.more_exchanges; opens = e.opens ∙ append_assoc o (b ∷ []) e.more_opening; acts = e.acts; trades = e.trades; later = e.later }

@@ -7,19 +7,11 @@ use Rattle.model.specs.PlanBytes.{Opens}
 use Rattle.model.specs.Verdict.{Mark, Away, Here, State, begin, after, blank_marks, blank_idle, most_blocks, most_disks}
 use Rattle.model.specs.Statements.{Fit}
 use Rattle.model.specs.Pass.{opens}
-use Rattle.model.proofs.Progress.{Tells, tells_begin, tells_opens, each_push}
+use Rattle.model.proofs.Progress.{Tells, tells_begin, tells_opens, each_push, get_or_blank}
 use Rattle.model.proofs.Accepts.{Sofar}
 use Rattle.model.proofs.Picked.{Rising, rising_room, rising_from}
 use Rattle.model.proofs.Seeing.{mark, idle_from}
 use Rattle.model.proofs.Sound.{Sound, here_away, here_same}
-
-blank_at : {A : Type 0} (n b : ℕ) (x : A) → get_or (replicate n x) b x ≡ x
-blank_at zero b x = refl
-blank_at (suc n) zero x = refl
-blank_at (suc n) (suc b) x = blank_at n b x
-
-none_below : {X : Type 0} (i : ℕ) → i < 0 → X
-none_below i l = absurd (omega arith)
 
 same_away : (m : Mark) (i j : ℕ) → m ≡ Away i → m ≡ Away j → i ≡ j
 same_away m i j e f = cc
@@ -40,9 +32,9 @@ module _ (side : Side) (homes : List ℕ) (frames fetch : ℕ) (requests : List 
   unfolding blank_marks blank_idle
   filled_begin = record {
     tells_it = tells_begin side homes fetch;
-    here_or = λ b. inr (blank_at most_blocks b (Away 0));
-    some = λ l. none_below 0 l;
-    idle = λ d. blank_at most_disks d 0;
+    here_or = λ b. inr (get_or_blank most_blocks b (Away 0));
+    some = λ l. absurd (omega arith);
+    idle = λ d. get_or_blank most_disks d 0;
     landing = refl;
     boundary = refl;
     position = refl;
@@ -87,7 +79,7 @@ module _ (side : Side) (homes : List ℕ) (frames fetch : ℕ) (requests : List 
     record {
       tells_it = subst (λ (xs : List Exchange). Tells side homes fetch o [] xs s) (sym h.records) h.tells_it;
       keeps_it = subst (λ (xs : List Exchange). Sofar side homes fetch requests o [] xs) (sym h.records)
-          (record { exist = exist; rise = rise; in_order = λ i j k l. none_below j l; lawful = λ i l. none_below i l; serves = λ t l. none_below t l });
+          (record { exist = exist; rise = rise; in_order = λ i j k l. absurd (omega arith); lawful = λ i l. absurd (omega arith); serves = λ t l. absurd (omega arith) });
       asks = omega (arith, h.position);
       some_here = let b = h.some nonempty in (b.0, 0, b.1, b.2);
       on_disk = λ b l e. (0, zero_here b l e (h.here_or b));
@@ -105,7 +97,7 @@ module _ (side : Side) (homes : List ℕ) (frames fetch : ℕ) (requests : List 
       s = opens side homes frames fetch requests o begin
 
       h : Filled o s
-      h = filled_all o [] begin 0 filled_begin (rising_from 0 (length homes) o (omega arith) (λ i l. omega arith) exist rise) (λ i l. none_below i l)
+      h = filled_all o [] begin 0 filled_begin (rising_from 0 (length homes) o (omega arith) (λ i l. omega arith) exist rise) (λ i l. absurd (omega arith))
 
       zero_here : (b l : ℕ) → mark s b ≡ Here l → (mark s b ≡ Here 0) ⊎ (mark s b ≡ Away 0) → l ≤ idle_from s 0
       zero_here b l e (inl f) = omega (arith, here_same (mark s b) l 0 e f)

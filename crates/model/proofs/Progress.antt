@@ -36,7 +36,7 @@ pub record Tells (side : Side) (homes : List ℕ) (fetch : ℕ) (o : List ℕ) (
   pub phase : PhaseIs s.phase a xs
 
 -- a blank list gives its one value everywhere
-get_or_blank : {A : Type 0} (n b : ℕ) (x : A) → get_or (replicate n x) b x ≡ x
+pub get_or_blank : {A : Type 0} (n b : ℕ) (x : A) → get_or (replicate n x) b x ≡ x
 get_or_blank zero b x = refl
 get_or_blank (suc n) zero x = refl
 get_or_blank (suc n) (suc b) x = get_or_blank n b x
@@ -44,35 +44,29 @@ get_or_blank (suc n) (suc b) x = get_or_blank n b x
 mark_none : (fetch b : ℕ) (m : Mark) → m ≡ Away 0 → MarkIs fetch [] [] 0 b m
 unfolding count home
 mark_none fetch b m e = subst (λ (k : Mark). MarkIs fetch [] [] 0 b k) (sym e)
-    (record { out = refl; came = refl; gone = λ i. refl; going = λ i. absurd (never i); soon = omega arith; down = λ u i. refl })
-  where
-    never : 0 < 0 → ⊥
-    never i = omega arith
+    (record { out = refl; came = refl; gone = λ i. refl; going = λ i. absurd (omega arith); soon = omega arith; down = λ u i. refl })
 
 pub tells_begin : (side : Side) (homes : List ℕ) (fetch : ℕ) → Tells side homes fetch [] [] [] begin
 unfolding served waited blank_marks blank_idle
 tells_begin side homes fetch =
     record {
       opened = refl;
-      over_floor = λ i l. absurd (none_below i l);
+      over_floor = λ i l. absurd (omega arith);
       floor_low = λ b h. omega arith;
       position = refl;
       boundary = refl;
       waits = refl;
       records = refl;
-      started = λ j l. absurd (none_below j l);
-      landing_over = λ j l. absurd (none_below j l);
+      started = λ j l. absurd (omega arith);
+      landing_over = λ j l. absurd (omega arith);
       landing_low = λ t h. omega arith;
       marks = λ b. mark_none fetch b (get_or (replicate most_blocks (Away 0)) b (Away 0)) (get_or_blank most_blocks b (Away 0));
       size_marks = length-replicate most_blocks (Away 0);
-      idle_over = λ j l. absurd (none_below j l);
+      idle_over = λ j l. absurd (omega arith);
       idle_low = λ d t h. subst (λ (n : ℕ). n ≤ t) (sym (get_or_blank most_disks d 0)) (omega arith);
       size_idle = length-replicate {A = ℕ} most_disks 0;
       phase = (refl, refl);
     }
-  where
-    none_below : (i : ℕ) → i < 0 → ⊥
-    none_below i l = omega arith
 
 -- what holds of each of a list, and of one more
 pub each_push : {X : Type 0} (xs : List X) (x d : X) (P : ℕ → X → Type 0) → ((i : ℕ) → i < length xs → P i (get_or xs i d)) → P (length xs) x →
@@ -101,10 +95,7 @@ mark_home fetch o p xs t b (Away g) e h =
 mark_opens : (fetch : ℕ) (o : List ℕ) (t b : ℕ) → MarkIs fetch (o ++ (b ∷ [])) [] t b (Here 0)
 unfolding count
 mark_opens fetch o t b =
-    record { one = omega (arith, home_push_same o b); stays = refl; lands = λ u i j. refl; flies = λ u i j. absurd (never u j) }
-  where
-    never : (u : ℕ) → u < 0 → ⊥
-    never u j = omega arith
+    record { one = omega (arith, home_push_same o b); stays = refl; lands = λ u i j. refl; flies = λ u i j. absurd (omega arith) }
 
 module _ (side : Side) (homes : List ℕ) (frames fetch : ℕ) (requests : List ℕ) (room : ℕ) (fit : Fit homes fetch) where
   pub tells_opens : (o : List ℕ) (s : State) (b : ℕ) → Tells side homes fetch o [] [] s → s.floor ≤ b → b < length homes →

@@ -9,7 +9,7 @@ use Rattle.model.specs.Statements.{Fit}
 use Rattle.model.specs.Pass.{starts}
 use Rattle.model.proofs.Marks.{Started, here_resident, landed_late, left_late}
 use Rattle.model.proofs.Progress.{Tells, tells_trades, tells_serves, tells_waits, lawful_from, each_push}
-use Rattle.model.proofs.Accepts.{Sofar}
+use Rattle.model.proofs.Accepts.{Sofar, sofar_trades, sofar_act}
 use Rattle.model.proofs.Seeing.{mark, idle_from, Requested, Takes}
 
 -- a mark that passes its test
@@ -26,51 +26,6 @@ here_away m l g e f = let z : ◌≡◌ {A = ℕ} 0 1 = cc in absurd (omega arit
 
 pub here_same : (m : Mark) (l k : ℕ) → m ≡ Here l → m ≡ Here k → l ≡ k
 here_same m l k e f = cc
-
--- A plan that keeps the model so far, with one exchange more or one step more.
-module _ (side : Side) (homes : List ℕ) (fetch : ℕ) (requests : List ℕ) where
-  sofar_trades : (o : List ℕ) (a : List Act) (xs : List Exchange) (x : Exchange) → 0 < fetch → Sofar side homes fetch requests o a xs → x.start ≡ length a → Started xs x.start →
-      Lawful side homes fetch o xs x → Sofar side homes fetch requests o a (xs ++ (x ∷ []))
-  sofar_trades o a xs x f h e started law =
-      record {
-        exist = h.exist;
-        rise = h.rise;
-        in_order = λ i j k l. each_push xs x none (λ m y. (i : ℕ) → i < m → (get_or (xs ++ (x ∷ [])) i none).start ≤ y.start) old new j l i k;
-        lawful = each_push xs x none (λ m y. Lawful side homes fetch o (take m (xs ++ (x ∷ []))) y) before last;
-        serves = λ t l s. during (wanted requests a t) t l (h.serves t l s);
-      }
-    where
-      old : (m : ℕ) → m < length xs → (i : ℕ) → i < m → (get_or (xs ++ (x ∷ [])) i none).start ≤ (get_or xs m none).start
-      old m l i k = let l' : i < length xs = omega arith in omega (arith, ap (λ (y : Exchange). y.start) (get_or_append_left xs (x ∷ []) none i l'), h.in_order i m k l)
-
-      new : (i : ℕ) → i < length xs → (get_or (xs ++ (x ∷ [])) i none).start ≤ x.start
-      new i k = omega (arith, ap (λ (y : Exchange). y.start) (get_or_append_left xs (x ∷ []) none i k), started i k)
-
-      before : (m : ℕ) → m < length xs → Lawful side homes fetch o (take m (xs ++ (x ∷ []))) (get_or xs m none)
-      before m l = subst (λ (ys : List Exchange). Lawful side homes fetch o ys (get_or xs m none)) (sym (take-append-le m xs (x ∷ []) (omega arith))) (h.lawful m l)
-
-      last : Lawful side homes fetch o (take (length xs) (xs ++ (x ∷ []))) x
-      last = subst (λ (ys : List Exchange). Lawful side homes fetch o ys x) (sym (take_at xs (x ∷ []) (length xs) refl)) law
-
-      during : (b t : ℕ) → t < length a → ResidentDuring fetch o xs b t → ResidentDuring fetch o (xs ++ (x ∷ [])) b t
-      during b t l r = omega (arith, landed_late xs x b fetch t (omega arith), left_late xs x b (t + 1) (omega arith))
-
-  sofar_act : (o : List ℕ) (a : List Act) (xs : List Exchange) (act : Act) → Sofar side homes fetch requests o a xs →
-      (act ≡ Serve → ResidentDuring fetch o xs (get_or requests (served a) 0) (length a)) → Sofar side homes fetch requests o (a ++ (act ∷ [])) xs
-  sofar_act o a xs act h now =
-      record {
-        exist = h.exist;
-        rise = h.rise;
-        in_order = h.in_order;
-        lawful = h.lawful;
-        serves = each_push a act Wait (λ t v. v ≡ Serve → ResidentDuring fetch o xs (wanted requests (a ++ (act ∷ [])) t) t) before last;
-      }
-    where
-      before : (t : ℕ) → t < length a → get_or a t Wait ≡ Serve → ResidentDuring fetch o xs (wanted requests (a ++ (act ∷ [])) t) t
-      before t l e = subst (λ (b : List Act). ResidentDuring fetch o xs (get_or requests (served b) 0) t) (sym (take-append-le t a (act ∷ []) (omega arith))) (h.serves t l e)
-
-      last : act ≡ Serve → ResidentDuring fetch o xs (wanted requests (a ++ (act ∷ [])) (length a)) (length a)
-      last e = subst (λ (b : List Act). ResidentDuring fetch o xs (get_or requests (served b) 0) (length a)) (sym (take_at a (act ∷ []) (length a) refl)) (now e)
 
 -- The state s of a pass after an opening o and acts a. The number u is the boundary where nothing has started at it yet,
 -- and one more where something may have.
@@ -241,7 +196,7 @@ module _ (side : Side) (homes : List ℕ) (frames fetch : ℕ) (requests : List 
   sound_waits a s h =
       record {
         tells_it = tells_waits side homes frames fetch requests 0 fit o a s.records s h.tells_it;
-        keeps_it = sofar_act side homes fetch requests o a s.records Wait h.keeps_it (λ e. not_serve e);
+        keeps_it = sofar_act side homes fetch requests o a s.records Wait h.keeps_it (λ e. absurd (cc));
         asks = h.asks;
         some_here = h.some_here;
         on_disk = h.on_disk;
@@ -251,9 +206,6 @@ module _ (side : Side) (homes : List ℕ) (frames fetch : ℕ) (requests : List 
         requested = λ b l e m. h.requested b l e (omega arith);
         last = λ m. h.last (omega arith);
       }
-    where
-      not_serve : {X : Type 0} → Wait ≡ Serve → X
-      not_serve e = let z : ◌≡◌ {A = ℕ} 0 1 = cc in absurd (omega arith)
 
   -- a step that serves
   pub sound_serves : (a : List Act) (s : State) → Sound side homes fetch requests o a (s.boundary + 1) s → s.position < length requests →

@@ -11,33 +11,25 @@ use Rattle.model.proofs.Counting.{count_same, count_none}
 use Rattle.model.proofs.Marks.{Started, MarkIs, HereFrom, comings, goings, left_all, brought_all, landed_brought, brought_comings}
 use Rattle.model.proofs.Progress.{Tells}
 use Rattle.model.proofs.Seeing.{mark, idle_from, each_at, each_length}
+use Rattle.model.proofs.Steady.{landed_started}
 
 each_same : {X : Type 0} (f g : ℕ → X) (n : ℕ) → ((b : ℕ) → b < n → f b ≡ g b) → each f n ≡ each g n
 unfolding each
 each_same f g zero h = refl
 each_same f g (suc n) h = let e = each_same f g n (λ b l. h b (omega arith)) in let k = h n (omega arith) in cc
 
--- landed one step before the landing of what starts now: brought in before
-landed_eve : (fetch : ℕ) (xs : List Exchange) (b t u : ℕ) → u + 1 ≡ t + fetch → landed fetch xs b u ≡ brought xs b t
-landed_eve fetch xs b t u e = count_same (λ x. eqb x.brings b && leb (x.start + fetch) u) (λ x. eqb x.brings b && ltb x.start t) xs
-    (λ j l. ap (λ (y : Bool). eqb (get_or xs j none).brings b && y) (same (get_or xs j none).start (cases_lt (get_or xs j none).start t)))
-  where
-    same : (n : ℕ) → (n < t) ⊎ (t ≤ n) → leb (n + fetch) u ≡ ltb n t
-    same n (inl l) = le-leb (n + fetch) u (omega arith) ∙ sym (lt-ltb n t l)
-    same n (inr l) = lt-leb (n + fetch) u (omega arith) ∙ sym (le-ltb n t l)
-
 module _ (fetch : ℕ) (lasts : 0 < fetch) (o : List ℕ) (xs : List Exchange) (t b : ℕ) (started : Started xs t) where
   -- a block that is to land: brought in at this boundary exactly if it lands after the fetch time
   fresh_now : HereFrom fetch o xs t b (t + fetch) → home o b + brought xs b t ≡ left xs b t
   fresh_now h =
       let u : ℕ = t + fetch - 1 in
-      let e = landed_eve fetch xs b t u (omega arith) in
+      let e = landed_started fetch xs b t u (omega arith) in
       omega (arith, h.flies u (omega arith) (omega arith), h.stays)
 
   not_fresh : (l : ℕ) → HereFrom fetch o xs t b l → l < t + fetch → brought xs b t ≡ comings xs b
   not_fresh l h m =
       let u : ℕ = t + fetch - 1 in
-      let e = landed_eve fetch xs b t u (omega arith) in
+      let e = landed_started fetch xs b t u (omega arith) in
       omega (arith, h.lands u (omega arith) (omega arith))
 
   place_same : (m : Mark) → MarkIs fetch o xs t b m → ((l : ℕ) → m ≡ Here l → l ≤ t + fetch) → place_by fetch t m ≡ place_at fetch o xs t b

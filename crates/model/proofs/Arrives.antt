@@ -2,7 +2,7 @@
 use Rattle.std.proofs.Common.{◌≡◌, ℕ, zero, suc, ◌+◌, ◌-◌, ◌<◌, ◌≤◌, Bool, true, false, ◌&&◌, eqb, ltb, leb, List, [], ◌∷◌, ◌++◌, length, get_or, take, sym, refl, ap, ◌∙◌, subst, arith}
 use Rattle.std.specs.List.{flat_map}
 use Rattle.std.proofs.lemmas.List.{append_assoc, length-append, length_push, take-append-le, take_at, get_or_append_left, get_or_push, flat_map_more}
-use Rattle.std.proofs.lemmas.Bool.{false≢true, le-leb, lt-ltb, le-ltb, lt-leb, eq-eqb}
+use Rattle.std.proofs.lemmas.Bool.{false≢true, le-leb, lt-ltb, le-ltb, lt-leb, eq-eqb, and_right}
 use Rattle.model.specs.Timetable.{Exchange, none, Act, Serve, Wait, Side, Plan, Lawful, ResidentDuring, wanted, served, occupies, Keeps}
 use Rattle.model.specs.PlanBytes.{Command, Opens, Trades, Serves, Waits, Ends, command_bytes, plan_commands, plan_bytes, plan_limit, so_far}
 use Rattle.model.specs.Verdict.{Outcome, State, Phase, Filling, Standing, Starting, Over, is_over, in_place, Known, size, Turn, run, onward, after, within_limit, begin, verdict, Away, tests_of, own_tests}
@@ -24,13 +24,9 @@ pub during_front : (fetch : ℕ) (o : List ℕ) (xs ys : List Exchange) (b t : �
 during_front fetch o xs ys b t h r =
     let e = count_append (λ x. eqb x.brings b && leb (x.start + fetch) t) xs ys in
     let f = count_append (λ x. eqb x.sends b && ltb x.start (t + 1)) xs ys in
-    let g = count_none (λ x. eqb x.brings b && leb (x.start + fetch) t) ys (λ j l. off (eqb (get_or ys j none).brings b) (leb ((get_or ys j none).start + fetch) t) (lt-leb ((get_or ys j none).start + fetch) t (omega (arith, h j l)))) in
-    let i = count_none (λ x. eqb x.sends b && ltb x.start (t + 1)) ys (λ j l. off (eqb (get_or ys j none).sends b) (ltb (get_or ys j none).start (t + 1)) (le-ltb (get_or ys j none).start (t + 1) (h j l))) in
+    let g = count_none (λ x. eqb x.brings b && leb (x.start + fetch) t) ys (λ j l. and_right (eqb (get_or ys j none).brings b) (leb ((get_or ys j none).start + fetch) t) (lt-leb ((get_or ys j none).start + fetch) t (omega (arith, h j l)))) in
+    let i = count_none (λ x. eqb x.sends b && ltb x.start (t + 1)) ys (λ j l. and_right (eqb (get_or ys j none).sends b) (ltb (get_or ys j none).start (t + 1)) (le-ltb (get_or ys j none).start (t + 1) (h j l))) in
     omega arith
-  where
-    off : (p q : Bool) → q ≡ false → (p && q) ≡ false
-    off true q e = e
-    off false q e = refl
 
 pub not_over : (ph : Phase) (c : Command) → in_place ph c ≡ true → is_over ph ≡ false
 not_over Filling c e = refl

@@ -1,15 +1,11 @@
 -- Counts over the exchanges listed before one, and over the whole plan, agree at its boundary.
 use Rattle.std.proofs.Common.{◌≡◌, ℕ, ◌+◌, ◌<◌, ◌≤◌, Bool, true, false, ◌&&◌, eqb, ltb, leb, ◌⊎◌, List, ◌++◌, length, get_or, take, drop, sym, refl, ap, subst, inl, inr, arith}
 use Rattle.std.proofs.lemmas.List.{take-append-drop, length-take-le, get_or-take, get_or-drop, length-drop}
-use Rattle.std.proofs.lemmas.Bool.{lt-leb, le-ltb, cases_eq}
+use Rattle.std.proofs.lemmas.Bool.{lt-leb, le-ltb, cases_eq, and_right}
 use Rattle.model.specs.Timetable.{Exchange, none, Keeps, KeepsPlainly, landed, brought, left, count, occupies}
 use Rattle.model.specs.Statements.{PlainReading}
 use Rattle.model.proofs.Counting.{count_append, count_none}
 use Rattle.model.proofs.Gather.{Ordered}
-
-off : (p q : Bool) → q ≡ false → (p && q) ≡ false
-off true q e = e
-off false q e = refl
 
 -- a test that no later exchange passes counts the same over the front
 count_front : (p : Exchange → Bool) (xs : List Exchange) (i : ℕ) → ((j : ℕ) → i ≤ j → j < length xs → p (get_or xs j none) ≡ false) → count p (take i xs) ≡ count p xs
@@ -29,15 +25,15 @@ module _ (xs : List Exchange) (ordered : Ordered xs) (i : ℕ) (l : i < length x
 
   pub brought_front : (b : ℕ) → brought (take i xs) b (get_or xs i none).start ≡ brought xs b (get_or xs i none).start
   brought_front b = count_front (λ x. eqb x.brings b && ltb x.start (get_or xs i none).start) xs i
-      (λ j h k. off (eqb (get_or xs j none).brings b) (ltb (get_or xs j none).start (get_or xs i none).start) (le-ltb (get_or xs j none).start (get_or xs i none).start (from_here j h k)))
+      (λ j h k. and_right (eqb (get_or xs j none).brings b) (ltb (get_or xs j none).start (get_or xs i none).start) (le-ltb (get_or xs j none).start (get_or xs i none).start (from_here j h k)))
 
   pub left_front : (b : ℕ) → left (take i xs) b (get_or xs i none).start ≡ left xs b (get_or xs i none).start
   left_front b = count_front (λ x. eqb x.sends b && ltb x.start (get_or xs i none).start) xs i
-      (λ j h k. off (eqb (get_or xs j none).sends b) (ltb (get_or xs j none).start (get_or xs i none).start) (le-ltb (get_or xs j none).start (get_or xs i none).start (from_here j h k)))
+      (λ j h k. and_right (eqb (get_or xs j none).sends b) (ltb (get_or xs j none).start (get_or xs i none).start) (le-ltb (get_or xs j none).start (get_or xs i none).start (from_here j h k)))
 
   pub landed_front : (fetch : ℕ) → 0 < fetch → (b : ℕ) → landed fetch (take i xs) b (get_or xs i none).start ≡ landed fetch xs b (get_or xs i none).start
   landed_front fetch f b = count_front (λ x. eqb x.brings b && leb (x.start + fetch) (get_or xs i none).start) xs i
-      (λ j h k. off (eqb (get_or xs j none).brings b) (leb ((get_or xs j none).start + fetch) (get_or xs i none).start) (lt-leb ((get_or xs j none).start + fetch) (get_or xs i none).start (omega (arith, from_here j h k))))
+      (λ j h k. and_right (eqb (get_or xs j none).brings b) (leb ((get_or xs j none).start + fetch) (get_or xs i none).start) (lt-leb ((get_or xs j none).start + fetch) (get_or xs i none).start (omega (arith, from_here j h k))))
 
   -- what holds of each pair with an earlier one, over the front and over the whole list
   pub front_each : (P : Exchange → Type 0) → ((j : ℕ) → j < length (take i xs) → P (get_or (take i xs) j none)) → (j : ℕ) → j < i → P (get_or xs j none)

@@ -2,11 +2,12 @@
 -- does not go before it has landed.
 use Rattle.std.proofs.Common.{◌≡◌, ℕ, zero, suc, ◌+◌, ◌<◌, ◌≤◌, Bool, true, false, ◌&&◌, eqb, ltb, leb, ◌⊎◌, List, [], ◌∷◌, ◌++◌, length, get_or, take, sym, refl, ap, subst, inl, inr, add-one, arith}
 use Rattle.std.proofs.lemmas.List.{take_more, take_all, length-take-le, get_or-take}
-use Rattle.std.proofs.lemmas.Bool.{eqb-true, eq-eqb, ltb-true, lt-ltb, le-ltb, leb-true, le-leb, lt-leb, cases_lt}
+use Rattle.std.proofs.lemmas.Bool.{eqb-true, eq-eqb, ltb-true, lt-ltb, le-ltb, leb-true, le-leb, lt-leb, cases_lt, and_right, and_from}
 use Rattle.model.specs.Timetable.{Exchange, none, Side, Plan, Keeps, Lawful, home, landed, brought, left, count, bit}
 use Rattle.model.proofs.Counting.{count_push, count_same, count_le, count_tight}
 use Rattle.model.proofs.Marks.{Started, brought_before, left_before, brought_comings, left_goings, bit_and}
 use Rattle.model.proofs.Picked.{home_one}
+use Rattle.std.proofs.lemmas.Bool.Decides.{nat_tests}
 
 -- a count up to a boundary grows with the boundary
 pub left_rises : (xs : List Exchange) (b t u : ℕ) → t ≤ u → left xs b t ≤ left xs b u
@@ -97,13 +98,6 @@ count_more p q h xs j l e f = go (cases_lt (count p xs) (count q xs))
         let c : bit (q (get_or xs j none)) ≡ 1 = ap bit f in
         absurd (omega (arith, count_tight p q h xs (omega (arith, count_le p q h xs)) j l))
 
-both : (p q : Bool) → p ≡ true → q ≡ true → (p && q) ≡ true
-both p q e f = rw (e, f)
-
-off : (p q : Bool) → q ≡ false → (p && q) ≡ false
-off true q e = e
-off false q e = refl
-
 module _ (xs : List Exchange) (j : ℕ) (l : j < length xs) where
   -- an exchange counts from just after its start
   pub left_more : left xs (get_or xs j none).sends (get_or xs j none).start < left xs (get_or xs j none).sends ((get_or xs j none).start + 1)
@@ -111,22 +105,18 @@ module _ (xs : List Exchange) (j : ℕ) (l : j < length xs) where
       let b : ℕ = (get_or xs j none).sends in let s : ℕ = (get_or xs j none).start in
       count_more (λ x. eqb x.sends b && ltb x.start s) (λ x. eqb x.sends b && ltb x.start (s + 1))
       (λ x. bit_and (eqb x.sends b) (ltb x.start s) (ltb x.start (s + 1)) (λ e. lt-ltb x.start (s + 1) (omega (arith, ltb-true x.start s e)))) xs j l
-      (off (eqb b b) (ltb s s) (le-ltb s s (omega arith))) (both (eqb b b) (ltb s (s + 1)) (eq-eqb b b refl) (lt-ltb s (s + 1) (omega arith)))
+      (and_right (eqb b b) (ltb s s) (le-ltb s s (omega arith))) (and_from (eqb b b) (ltb s (s + 1)) (eq-eqb b b refl) (lt-ltb s (s + 1) (omega arith)))
 
   pub brought_more : brought xs (get_or xs j none).brings (get_or xs j none).start < brought xs (get_or xs j none).brings ((get_or xs j none).start + 1)
   brought_more =
       let b : ℕ = (get_or xs j none).brings in let s : ℕ = (get_or xs j none).start in
       count_more (λ x. eqb x.brings b && ltb x.start s) (λ x. eqb x.brings b && ltb x.start (s + 1))
       (λ x. bit_and (eqb x.brings b) (ltb x.start s) (ltb x.start (s + 1)) (λ e. lt-ltb x.start (s + 1) (omega (arith, ltb-true x.start s e)))) xs j l
-      (off (eqb b b) (ltb s s) (le-ltb s s (omega arith))) (both (eqb b b) (ltb s (s + 1)) (eq-eqb b b refl) (lt-ltb s (s + 1) (omega arith)))
+      (and_right (eqb b b) (ltb s s) (le-ltb s s (omega arith))) (and_from (eqb b b) (ltb s (s + 1)) (eq-eqb b b refl) (lt-ltb s (s + 1) (omega arith)))
 
 -- landed at a boundary is what started before, a fetch earlier
 lands_as : (s fetch t u : ℕ) → u + 1 ≡ t + fetch → leb (s + fetch) u ≡ ltb s t
-lands_as s fetch t u e = go (cases_lt s t)
-  where
-    go : (s < t) ⊎ (t ≤ s) → leb (s + fetch) u ≡ ltb s t
-    go (inl i) = rw (le-leb (s + fetch) u (omega arith), lt-ltb s t i)
-    go (inr i) = rw (lt-leb (s + fetch) u (omega arith), le-ltb s t i)
+lands_as s fetch t u e = grind (arith, nat_tests)
 
 pub landed_started : (fetch : ℕ) (xs : List Exchange) (b t u : ℕ) → u + 1 ≡ t + fetch → landed fetch xs b u ≡ brought xs b t
 landed_started fetch xs b t u e = count_same (λ x. eqb x.brings b && leb (x.start + fetch) u) (λ x. eqb x.brings b && ltb x.start t) xs

@@ -2,7 +2,7 @@
 use Rattle.std.proofs.Common.{◌≡◌, ℕ, suc, ◌+◌, ◌-◌, ◌<◌, ◌≤◌, Bool, true, false, cond, ◌&&◌, eqb, ltb, leb, ◌⊎◌, List, [], ◌∷◌, ◌++◌, map, reverse, length, get_or, sym, refl, ap, ◌∙◌, inl, inr, arith}
 use mathlib.Core.List.{reverse-cons}
 use Rattle.std.proofs.lemmas.List.{append-nil, reverse-reverse, length-reverse, ext_get_or}
-use Rattle.std.proofs.lemmas.Bool.{eqb-true, eq-eqb, ne_eqb, le-ltb, lt-leb, cases_eq}
+use Rattle.std.proofs.lemmas.Bool.{eqb-true, eq-eqb, ne_eqb, le-ltb, lt-leb, cases_eq, and_right}
 use Rattle.model.specs.Timetable.{Exchange, none, Side, Plan, Keeps, landed, left, home, bit}
 use Rattle.model.specs.PlanBytes.{starting_at}
 use Rattle.model.specs.Mirror.{remains, closing, reflected, mirrored}
@@ -13,18 +13,14 @@ use Rattle.model.proofs.Picked.{among, picked_same, rising_picked, home_picked}
 use Rattle.model.proofs.Reflected.{left_reflected, landed_reflected, closes_with, opening_rises}
 use Rattle.model.proofs.Mirroring.{length_reflected, at_reflected}
 
-off : (p q : Bool) → q ≡ false → (p && q) ≡ false
-off true q e = e
-off false q e = refl
-
 -- at the first boundary nothing has landed or gone
 landed_first : (fetch : ℕ) → 0 < fetch → (xs : List Exchange) (b : ℕ) → landed fetch xs b 0 ≡ 0
 landed_first fetch f xs b = count_none (λ x. eqb x.brings b && leb (x.start + fetch) 0) xs
-    (λ j l. off (eqb (get_or xs j none).brings b) (leb ((get_or xs j none).start + fetch) 0) (lt-leb ((get_or xs j none).start + fetch) 0 (omega arith)))
+    (λ j l. and_right (eqb (get_or xs j none).brings b) (leb ((get_or xs j none).start + fetch) 0) (lt-leb ((get_or xs j none).start + fetch) 0 (omega arith)))
 
 left_first : (xs : List Exchange) (b : ℕ) → left xs b 0 ≡ 0
 left_first xs b = count_none (λ x. eqb x.sends b && ltb x.start 0) xs
-    (λ j l. off (eqb (get_or xs j none).sends b) (ltb (get_or xs j none).start 0) (le-ltb (get_or xs j none).start 0 (omega arith)))
+    (λ j l. and_right (eqb (get_or xs j none).sends b) (ltb (get_or xs j none).start 0) (le-ltb (get_or xs j none).start 0 (omega arith)))
 
 -- an exchange reflected twice
 reflected_twice : (T U fetch : ℕ) (x : Exchange) → x.start + fetch ≤ T → U ≡ T → reflected U fetch (reflected T fetch x) ≡ x

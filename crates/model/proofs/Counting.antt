@@ -44,6 +44,16 @@ count_tight p q h (x ∷ xs) e (suc j) l =
     let a = h x in let b = count_le p q h xs in
     count_tight p q h xs (omega arith) j (omega arith)
 
+-- two tests that between them pass as often as a third
+pub count_split : (p q r : Exchange → Bool) (xs : List Exchange) → ((j : ℕ) → j < length xs → bit (p (get_or xs j none)) + bit (q (get_or xs j none)) ≡ bit (r (get_or xs j none))) →
+    count p xs + count q xs ≡ count r xs
+unfolding count
+count_split p q r [] h = refl
+count_split p q r (x ∷ xs) h =
+    let e : bit (p x) + bit (q x) ≡ bit (r x) = h 0 (omega arith) in
+    let f = count_split p q r xs (λ j l. h (suc j) (omega arith)) in
+    omega arith
+
 -- the opening content, one block more
 pub home_push_same : (os : List ℕ) (b : ℕ) → home (os ++ (b ∷ [])) b ≡ 1
 unfolding home

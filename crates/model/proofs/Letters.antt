@@ -6,8 +6,9 @@ use Rattle.std.proofs.lemmas.Bool.{eq-eqb, ne_eqb, lt-ltb, le-ltb, le-leb, lt-le
 use Rattle.model.specs.Timetable.{Exchange, none, bit, count, Act, Serve, Wait, Plan}
 use Rattle.model.specs.PlanBytes.{Command, Opens, Ends, command_bytes, act_command, trade_command, starting_at, step_commands, plan_commands, plan_bytes}
 use Rattle.model.specs.Layout.{letter, started_by, letter_at, StepLetters}
-use Rattle.model.proofs.Counting.{count_none}
+use Rattle.model.proofs.Counting.{count_none, count_split}
 use Rattle.std.proofs.lemmas.List.Concat.{flat_map-append}
+use Rattle.std.proofs.lemmas.Bool.Decides.{nat_tests}
 
 -- the steps of one list of acts after those of another
 steps_append : (a b : List Act) (t : ℕ) (xs : List Exchange) → step_commands t (a ++ b) xs ≡ step_commands t a xs ++ step_commands (t + length a) b xs
@@ -39,26 +40,11 @@ length_starting t (x ∷ xs) = go (eqb x.start t) (length_starting t xs)
     go false e = omega arith
 
 -- counts of starts: before a boundary, at it, up to it
-count_sum : (p q r : Exchange → Bool) → ((x : Exchange) → bit (p x) + bit (q x) ≡ bit (r x)) → (xs : List Exchange) → count p xs + count q xs ≡ count r xs
-unfolding count
-count_sum p q r h [] = refl
-count_sum p q r h (x ∷ xs) = let e = h x in let f = count_sum p q r h xs in omega arith
-
 at_or_before : (s t : ℕ) → bit (ltb s t) + bit (eqb s t) ≡ bit (leb s t)
-at_or_before s t = go (cases_order s t)
-  where
-    go : (s ≡ t) ⊎ ((s < t) ⊎ (t < s)) → bit (ltb s t) + bit (eqb s t) ≡ bit (leb s t)
-    go (inl e) = rw (le-ltb s t (omega arith), eq-eqb s t e, le-leb s t (omega arith))
-    go (inr (inl l)) = rw (lt-ltb s t l, ne_eqb s t (λ (e : s ≡ t). omega arith), le-leb s t (omega arith))
-    go (inr (inr l)) = rw (le-ltb s t (omega arith), ne_eqb s t (λ (e : s ≡ t). omega arith), lt-leb s t l)
+at_or_before s t = grind (arith, nat_tests)
 
 before_next : (s t : ℕ) → bit (ltb s t) + bit (eqb s t) ≡ bit (ltb s (t + 1))
-before_next s t = go (cases_order s t)
-  where
-    go : (s ≡ t) ⊎ ((s < t) ⊎ (t < s)) → bit (ltb s t) + bit (eqb s t) ≡ bit (ltb s (t + 1))
-    go (inl e) = rw (le-ltb s t (omega arith), eq-eqb s t e, lt-ltb s (t + 1) (omega arith))
-    go (inr (inl l)) = rw (lt-ltb s t l, ne_eqb s t (λ (e : s ≡ t). omega arith), lt-ltb s (t + 1) (omega arith))
-    go (inr (inr l)) = rw (le-ltb s t (omega arith), ne_eqb s t (λ (e : s ≡ t). omega arith), le-ltb s (t + 1) (omega arith))
+before_next s t = grind (arith, nat_tests)
 
 abbrev starts_before : List Exchange → ℕ → ℕ
 starts_before xs t = count (λ x. ltb x.start t) xs
@@ -74,7 +60,7 @@ length_steps (act ∷ acts) t xs =
     let c = length_trades (starting_at t xs) in
     let d = length_starting t xs in
     let e = one act rest in
-    let f = count_sum (λ x. ltb x.start t) (λ x. eqb x.start t) (λ x. ltb x.start (t + 1)) (λ x. before_next x.start t) xs in
+    let f = count_split (λ x. ltb x.start t) (λ x. eqb x.start t) (λ x. ltb x.start (t + 1)) xs (λ j l. before_next (get_or xs j none).start t) in
     let g = length_steps acts (t + 1) xs in
     let n : t + suc (length acts) ≡ (t + 1) + length acts = omega arith in
     let h : starts_before xs (t + suc (length acts)) ≡ starts_before xs ((t + 1) + length acts) = ap (λ (k : ℕ). starts_before xs k) n in
@@ -118,7 +104,7 @@ module _ (plan : Plan) (t : ℕ) (l : t < length plan.acts) where
       let d : length (flat_map command_bytes (a ++ b)) ≡ length (flat_map command_bytes a ++ flat_map command_bytes b) = ap (λ (bs : List ℕ). length bs) (flat_map-append command_bytes a b) in
       let e : starts_before xs (0 + length (take t plan.acts)) ≡ starts_before xs t = ap (λ (k : ℕ). starts_before xs k) up in
       let f : starts_before xs 0 ≡ 0 = count_none (λ x. ltb x.start 0) xs (λ j m. le-ltb (get_or xs j none).start 0 (omega arith)) in
-      let g = count_sum (λ x. ltb x.start t) (λ x. eqb x.start t) (λ x. leb x.start t) (λ x. at_or_before x.start t) xs in
+      let g = count_split (λ x. ltb x.start t) (λ x. eqb x.start t) (λ x. leb x.start t) xs (λ j m. at_or_before (get_or xs j none).start t) in
       omega (arith, length-append (flat_map command_bytes o) (flat_map command_bytes (a ++ b)), length-append (flat_map command_bytes a) (flat_map command_bytes b), length_opens plan.opening, length_steps (take t plan.acts) 0 xs, length_trades (starting_at t xs), length_starting t xs)
     where
       up : 0 + length (take t plan.acts) ≡ t

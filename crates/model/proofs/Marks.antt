@@ -56,7 +56,7 @@ module _ (xs : List Exchange) (x : Exchange) (b : ℕ) where
 abbrev pub Started : List Exchange → ℕ → Type 0
 Started xs t = (j : ℕ) → j < length xs → (get_or xs j none).start ≤ t
 
-and_on : (p q : Bool) → q ≡ true → (p && q) ≡ p
+pub and_on : (p q : Bool) → q ≡ true → (p && q) ≡ p
 and_on true q e = e
 and_on false q e = refl
 

@@ -4,12 +4,13 @@ use mathlib.Core.List.{reverse-cons}
 use Rattle.std.proofs.lemmas.Bool.{ne_eqb, eq-eqb, lt-ltb, le-ltb, le-leb, lt-leb, cases_lt, cases_eq}
 use Rattle.model.specs.Timetable.{Exchange, none, Side, Plan, Keeps, KeepsPlainly, home, landed, brought, left, count, bit}
 use Rattle.model.specs.Mirror.{remains, closing, reflected}
-use Rattle.model.proofs.Counting.{count_push, count_same, count_none}
-use Rattle.model.proofs.Marks.{comings, goings, landed_brought}
+use Rattle.model.proofs.Counting.{count_push, count_same, count_none, count_split}
+use Rattle.model.proofs.Marks.{comings, goings, landed_brought, and_on}
 use Rattle.model.proofs.Plainly.{plain_reading}
 use Rattle.model.proofs.Places.{Chained, chained}
 use Rattle.model.proofs.Picked.{Rising, rising_from, picked_rises, home_picked, home_picked_past, home_above, sum_below, sum_same, sum_both, sum_none, sum_one, length_rising}
 use Rattle.model.proofs.Steady.{Steady, steady, left_rises, brought_rises, left_more, brought_more, landed_started}
+use Rattle.std.proofs.lemmas.Bool.Decides.{nat_tests}
 
 -- Counting over a list reversed, and over a list of images.
 count_reverse : (p : Exchange → Bool) (xs : List Exchange) → count p (reverse xs) ≡ count p xs
@@ -26,16 +27,6 @@ unfolding count
 count_map p g [] = refl
 count_map p g (x ∷ xs) = ap (λ n. bit (p (g x)) + n) (count_map p g xs)
 
--- two tests that between them pass as often as a third
-count_split : (p q r : Exchange → Bool) (xs : List Exchange) → ((j : ℕ) → j < length xs → bit (p (get_or xs j none)) + bit (q (get_or xs j none)) ≡ bit (r (get_or xs j none))) →
-    count p xs + count q xs ≡ count r xs
-unfolding count
-count_split p q r [] h = refl
-count_split p q r (x ∷ xs) h =
-    let e : bit (p x) + bit (q x) ≡ bit (r x) = h 0 (omega arith) in
-    let f = count_split p q r xs (λ j l. h (suc j) (omega arith)) in
-    omega arith
-
 -- one of two tests, under a third
 split_bit : (a p q : Bool) → bit p + bit q ≡ 1 → bit (a && p) + bit (a && q) ≡ bit a
 split_bit true p q e = e
@@ -43,25 +34,13 @@ split_bit false p q e = refl
 
 -- An exchange that starts at s and lands by the last boundary T, and its mirror, before and after a boundary.
 start_or_landed : (s fetch T t u : ℕ) → s + fetch ≤ T → t + u ≡ T → bit (ltb (T - (s + fetch)) t) + bit (leb (s + fetch) u) ≡ 1
-start_or_landed s fetch T t u l e = go (cases_lt u (s + fetch))
-  where
-    go : (u < s + fetch) ⊎ (s + fetch ≤ u) → bit (ltb (T - (s + fetch)) t) + bit (leb (s + fetch) u) ≡ 1
-    go (inl i) = rw (lt-ltb (T - (s + fetch)) t (omega arith), lt-leb (s + fetch) u i)
-    go (inr i) = rw (le-ltb (T - (s + fetch)) t (omega arith), le-leb (s + fetch) u i)
+start_or_landed s fetch T t u l e = grind (arith, nat_tests)
 
 landed_or_start : (s fetch T t u : ℕ) → s + fetch ≤ T → t + u ≡ T → bit (leb (T - (s + fetch) + fetch) t) + bit (ltb s u) ≡ 1
-landed_or_start s fetch T t u l e = go (cases_lt s u)
-  where
-    go : (s < u) ⊎ (u ≤ s) → bit (leb (T - (s + fetch) + fetch) t) + bit (ltb s u) ≡ 1
-    go (inl i) = rw (lt-leb (T - (s + fetch) + fetch) t (omega arith), lt-ltb s u i)
-    go (inr i) = rw (le-leb (T - (s + fetch) + fetch) t (omega arith), le-ltb s u i)
+landed_or_start s fetch T t u l e = grind (arith, nat_tests)
 
 start_or_start : (s fetch T t u : ℕ) → s + fetch ≤ T → t + (u + fetch) ≡ T → bit (ltb (T - (s + fetch)) t) + bit (ltb s (u + 1)) ≡ 1
-start_or_start s fetch T t u l e = go (cases_lt u s)
-  where
-    go : (u < s) ⊎ (s ≤ u) → bit (ltb (T - (s + fetch)) t) + bit (ltb s (u + 1)) ≡ 1
-    go (inl i) = rw (lt-ltb (T - (s + fetch)) t (omega arith), le-ltb s (u + 1) (omega arith))
-    go (inr i) = rw (le-ltb (T - (s + fetch)) t (omega arith), lt-ltb s (u + 1) (omega arith))
+start_or_start s fetch T t u l e = grind (arith, nat_tests)
 
 -- Exchanges that all land by boundary T, and their mirrors.
 module _ (fetch T : ℕ) (xs : List Exchange) (lands : (j : ℕ) → j < length xs → (get_or xs j none).start + fetch ≤ T) (b : ℕ) where
@@ -90,7 +69,7 @@ module _ (fetch T : ℕ) (xs : List Exchange) (lands : (j : ℕ) → j < length 
       omega arith
 
 -- over all blocks each exchange counts once
-sum_count : (g : Exchange → ℕ) (xs : List Exchange) (n : ℕ) → ((j : ℕ) → j < length xs → g (get_or xs j none) < n) → sum_below (λ b. count (λ x. eqb (g x) b) xs) n ≡ length xs
+pub sum_count : (g : Exchange → ℕ) (xs : List Exchange) (n : ℕ) → ((j : ℕ) → j < length xs → g (get_or xs j none) < n) → sum_below (λ b. count (λ x. eqb (g x) b) xs) n ≡ length xs
 unfolding count
 sum_count g [] n h = sum_none n
 sum_count g (x ∷ xs) n h =
@@ -98,10 +77,6 @@ sum_count g (x ∷ xs) n h =
     let i = sum_count g xs n (λ j l. h (suc j) (omega arith)) in
     let d = sum_both (λ b. bit (eqb (g x) b)) (λ b. count (λ y. eqb (g y) b) xs) n in
     omega arith
-
-on : (p q : Bool) → q ≡ true → (p && q) ≡ p
-on true q e = e
-on false q e = refl
 
 -- In a plan that keeps the model.
 module _ (side : Side) (homes : List ℕ) (frames fetch : ℕ) (requests : List ℕ) (plan : Plan) (f : 0 < fetch) (k : Keeps side homes frames fetch requests plan) where
@@ -137,11 +112,11 @@ module _ (side : Side) (homes : List ℕ) (frames fetch : ℕ) (requests : List 
   -- all have landed, and all have gone, by the last boundary
   pub landed_last : (b : ℕ) → landed fetch plan.exchanges b (length plan.acts) ≡ comings plan.exchanges b
   landed_last b = count_same (λ x. eqb x.brings b && leb (x.start + fetch) (length plan.acts)) (λ x. eqb x.brings b) plan.exchanges
-      (λ j l. on (eqb (get_or plan.exchanges j none).brings b) (leb ((get_or plan.exchanges j none).start + fetch) (length plan.acts)) (le-leb ((get_or plan.exchanges j none).start + fetch) (length plan.acts) (k.all_land j l)))
+      (λ j l. and_on (eqb (get_or plan.exchanges j none).brings b) (leb ((get_or plan.exchanges j none).start + fetch) (length plan.acts)) (le-leb ((get_or plan.exchanges j none).start + fetch) (length plan.acts) (k.all_land j l)))
 
   pub left_last : (b : ℕ) → left plan.exchanges b (length plan.acts) ≡ goings plan.exchanges b
   left_last b = count_same (λ x. eqb x.sends b && ltb x.start (length plan.acts)) (λ x. eqb x.sends b) plan.exchanges
-      (λ j l. on (eqb (get_or plan.exchanges j none).sends b) (ltb (get_or plan.exchanges j none).start (length plan.acts)) (lt-ltb (get_or plan.exchanges j none).start (length plan.acts) (omega (arith, k.all_land j l))))
+      (λ j l. and_on (eqb (get_or plan.exchanges j none).sends b) (ltb (get_or plan.exchanges j none).start (length plan.acts)) (lt-ltb (get_or plan.exchanges j none).start (length plan.acts) (omega (arith, k.all_land j l))))
 
   pub opening_rises : Rising 0 (length homes) plan.opening
   opening_rises = rising_from 0 (length homes) plan.opening (omega arith) (λ i l. omega arith) k.exist k.rise

@@ -12,6 +12,7 @@ use Rattle.model.proofs.Writing.{starting_append}
 use Rattle.model.proofs.Picked.{among, picked_same, rising_picked, home_picked}
 use Rattle.model.proofs.Reflected.{left_reflected, landed_reflected, closes_with, opening_rises}
 use Rattle.model.proofs.Mirroring.{length_reflected, at_reflected}
+use Rattle.std.proofs.lemmas.Bool.Decides.{nat_tests}
 
 -- at the first boundary nothing has landed or gone
 landed_first : (fetch : ℕ) → 0 < fetch → (xs : List Exchange) (b : ℕ) → landed fetch xs b 0 ≡ 0
@@ -33,11 +34,7 @@ reflected_twice T U fetch x l e = ap start_at again
     again = omega arith
 
 same_test : (m n c h : ℕ) → m ≡ h + c → n ≡ c → eqb m (n + 1) ≡ eqb h 1
-same_test m n c h e d = go (cases_eq h 1)
-  where
-    go : (h ≡ 1) ⊎ (h ≡ 1 → ⊥) → eqb m (n + 1) ≡ eqb h 1
-    go (inl i) = rw (eq-eqb h 1 i, eq-eqb m (n + 1) (omega arith))
-    go (inr i) = rw (ne_eqb h 1 i, ne_eqb m (n + 1) (λ (j : m ≡ n + 1). i (omega arith)))
+same_test m n c h e d = grind (arith, nat_tests)
 
 module _ (side : Side) (homes : List ℕ) (frames fetch : ℕ) (requests : List ℕ) (plan : Plan) (f : 0 < fetch) (k : Keeps side homes frames fetch requests plan) where
   closes_back : closing (length homes) fetch (mirrored (length homes) fetch plan) ≡ plan.opening
@@ -113,11 +110,7 @@ starting_reverse t (x ∷ xs) =
     go false = append-nil (reverse (starting_at t xs))
 
 starts_across : (s fetch T t u : ℕ) → s + fetch ≤ T → t + (u + fetch) ≡ T → eqb (T - (s + fetch)) t ≡ eqb s u
-starts_across s fetch T t u l e = go (cases_eq s u)
-  where
-    go : (s ≡ u) ⊎ (s ≡ u → ⊥) → eqb (T - (s + fetch)) t ≡ eqb s u
-    go (inl i) = rw (eq-eqb s u i, eq-eqb (T - (s + fetch)) t (omega arith))
-    go (inr i) = rw (ne_eqb s u i, ne_eqb (T - (s + fetch)) t (λ (j : T - (s + fetch) ≡ t). i (omega arith)))
+starts_across s fetch T t u l e = grind (arith, nat_tests)
 
 starting_reflected : (T fetch t u : ℕ) → t + (u + fetch) ≡ T → (xs : List Exchange) → ((j : ℕ) → j < length xs → (get_or xs j none).start + fetch ≤ T) →
     starting_at t (map (reflected T fetch) xs) ≡ map (reflected T fetch) (starting_at u xs)

@@ -8,7 +8,7 @@ use Rattle.model.specs.Timetable.{Exchange, none, Act, Serve, Wait, Side, Plan, 
 use Rattle.model.specs.PlanBytes.{Command, Opens, Trades, Serves, Waits, Ends, command_bytes, plan_bytes, plan_commands, plan_limit, so_far}
 use Rattle.model.specs.Verdict.{Accepted, Outcome, Cause, State, Phase, Filling, Standing, Starting, Over, is_over, in_place, Known, size, Turn, Goes, Stops, step, run, onward, after, accepted, refused, within_limit, begin, verdict, Away, tests_of}
 use Rattle.model.specs.Statements.{Fit, WrittenBy, plan_outcome}
-use Rattle.model.proofs.Counting.{served_push}
+use Rattle.model.proofs.Counting.{served_append}
 use Rattle.model.proofs.Marks.{Started, here_resident, landed_late, left_late}
 use Rattle.model.proofs.Progress.{PhaseIs, Tells, tells_begin, tells_opens, tells_trades, tells_serves, tells_waits, lawful_from, each_push}
 use Rattle.model.proofs.Reading.{Bytes, AllPass, reads_back, size_some}
@@ -234,7 +234,7 @@ module _ (side : Side) (homes : List ℕ) (frames fetch : ℕ) (requests : List 
       (record {
         fits = t.fits;
         filled = λ _. sym h.opened ∙ eqb-true s.opened frames p.1.1.1.0;
-        asked = omega (arith, served_push a Serve, h.position, ltb-true s.position (length requests) p.1.1.1.1.0);
+        asked = omega (arith, served_append a (Serve ∷ []), h.position, ltb-true s.position (length requests) p.1.1.1.1.0);
         listed = t.listed;
         within = within_more (length bytes) rest 1 p.0 (leb-true 1 (length rest) p.1.1.0) u;
       })
@@ -248,7 +248,7 @@ module _ (side : Side) (homes : List ℕ) (frames fetch : ℕ) (requests : List 
       (record {
         fits = t.fits;
         filled = λ _. sym h.opened ∙ eqb-true s.opened frames p.1.1.1.0;
-        asked = omega (arith, served_push a Wait, t.asked);
+        asked = omega (arith, served_append a (Wait ∷ []), t.asked);
         listed = t.listed;
         within = within_more (length bytes) rest 1 p.0 (leb-true 1 (length rest) p.1.1.0) u;
       })

@@ -8,18 +8,12 @@ use Rattle.model.specs.PassLaws.{FewExchanges}
 use Rattle.model.proofs.Counting.{count_push}
 use Rattle.model.proofs.Plainly.{plain_reading}
 use Rattle.model.proofs.Picked.{sum_below, sum_both, sum_none, sum_one}
+use Rattle.std.proofs.Math.Seq.{take-suc}
+use Rattle.model.proofs.Reflected.{sum_count}
 
 module _ (side : Side) (homes : List ℕ) (fetch : ℕ) where
   abbrev on : ℕ → Exchange → Bool
   on d x = eqb (occupies side homes x) d
-
-  -- each exchange is on one disk
-  sum_disks : (xs : List Exchange) → ((j : ℕ) → j < length xs → occupies side homes (get_or xs j none) < most_disks) → sum_below (λ d. count (on d) xs) most_disks ≡ length xs
-  unfolding count
-  sum_disks [] h = sum_none most_disks
-  sum_disks (x ∷ xs) h =
-      let e = sum_both (λ d. bit (on d x)) (λ d. count (on d) xs) most_disks in
-      omega (arith, sum_one (occupies side homes x) most_disks (h 0 (omega arith)), sum_disks xs (λ j l. h (suc j) (omega arith)))
 
   -- those of one disk follow each other by the fetch time
   module _ (xs : List Exchange) (apart : (i j : ℕ) → i < j → j < length xs → occupies side homes (get_or xs i none) ≡ occupies side homes (get_or xs j none) → (get_or xs i none).start + fetch ≤ (get_or xs j none).start) (d : ℕ) where
@@ -28,7 +22,7 @@ module _ (side : Side) (homes : List ℕ) (fetch : ℕ) where
     busy zero bound l h = omega (arith, zero-mul fetch)
     busy (suc m) bound l h =
         let x : Exchange = get_or xs m none in
-        let e : take (suc m) xs ≡ take m xs ++ (x ∷ []) = ap (λ (n : ℕ). take n xs) (sym (add-one m)) ∙ take_more xs m none (omega arith) in
+        let e : take (suc m) xs ≡ take m xs ++ (x ∷ []) = take-suc xs m none (omega arith) in
         let f : count (on d) (take (suc m) xs) ≡ count (on d) (take m xs) + bit (on d x) = ap (λ (ys : List Exchange). count (on d) ys) e ∙ count_push (on d) (take m xs) x in
         subst (λ (n : ℕ). n * fetch ≤ bound) (sym f)
         (go (cases_eq (occupies side homes x) d) (λ b k. busy m b (omega arith) k))
@@ -56,7 +50,7 @@ sum_le f zero b h = omega (arith, zero-mul b)
 sum_le f (suc n) b h = omega (arith, suc-mul n b, sum_le f n b (λ d l. h d (omega arith)), h n (omega arith))
 
 pub few_exchanges : FewExchanges
-few_exchanges side homes frames fetch requests plan fit k short = omega (arith, sum_disks side homes fetch xs known, sum_le (λ d. count (on side homes fetch d) xs) most_disks (2 * length requests) each_few)
+few_exchanges side homes frames fetch requests plan fit k short = omega (arith, sum_count (λ x. occupies side homes x) xs most_disks known, sum_le (λ d. count (on side homes fetch d) xs) most_disks (2 * length requests) each_few)
   where
     xs : List Exchange
     xs = plan.exchanges

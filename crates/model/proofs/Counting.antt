@@ -1,7 +1,8 @@
 -- Counting exchanges, and the opening content, one more at a time.
-use Rattle.std.proofs.Common.{◌≡◌, ℕ, zero, suc, ◌+◌, ◌<◌, ◌≤◌, Bool, true, false, eqb, List, [], ◌∷◌, ◌++◌, length, get_or, sym, refl, ap, ◌∙◌, add_assoc, zero-add, arith}
+use Rattle.std.proofs.Common.{◌≡◌, ℕ, zero, suc, ◌+◌, ◌<◌, ◌≤◌, Bool, true, false, eqb, List, [], ◌∷◌, ◌++◌, length, get_or, sym, refl, ap, ◌∙◌, add_assoc, zero-add, arith, reverse}
 use Rattle.std.proofs.lemmas.Bool.{eq-eqb, ne_eqb}
 use Rattle.model.specs.Timetable.{Exchange, none, bit, count, home, one_or, Act, Serve, Wait, served, waited}
+use mathlib.Core.List.{reverse-cons}
 
 pub count_append : (p : Exchange → Bool) (xs ys : List Exchange) → count p (xs ++ ys) ≡ count p xs + count p ys
 unfolding count
@@ -69,20 +70,21 @@ unfolding home
 home_push_other [] b c h = rw (ne_eqb b c (λ e. h (sym e)))
 home_push_other (o ∷ os) b c h = ap (λ n. one_or (eqb o c) n) (home_push_other os b c h)
 
-pub served_push : (acts : List Act) (a : Act) → served (acts ++ (a ∷ [])) ≡ served acts + served (a ∷ [])
-unfolding served
-served_push [] a = sym (zero-add (served (a ∷ [])))
-served_push (Serve ∷ acts) a = let e = served_push acts a in omega arith
-served_push (Wait ∷ acts) a = served_push acts a
-
-pub waited_push : (acts : List Act) (a : Act) → waited (acts ++ (a ∷ [])) ≡ waited acts + waited (a ∷ [])
-unfolding waited
-waited_push [] a = sym (zero-add (waited (a ∷ [])))
-waited_push (Serve ∷ acts) a = waited_push acts a
-waited_push (Wait ∷ acts) a = let e = waited_push acts a in omega arith
-
 pub served_append : (a b : List Act) → served (a ++ b) ≡ served a + served b
 unfolding served
 served_append [] b = sym (zero-add (served b))
 served_append (Serve ∷ a) b = let e = served_append a b in omega arith
 served_append (Wait ∷ a) b = served_append a b
+
+pub waited_append : (a b : List Act) → waited (a ++ b) ≡ waited a + waited b
+unfolding waited
+waited_append [] b = sym (zero-add (waited b))
+waited_append (Serve ∷ a) b = waited_append a b
+waited_append (Wait ∷ a) b = let e = waited_append a b in omega arith
+
+-- what adds up over joined lists is the same of a list read backwards
+pub same_reversed : {X : Type 0} (f : List X → ℕ) → ((xs ys : List X) → f (xs ++ ys) ≡ f xs + f ys) → (xs : List X) → f (reverse xs) ≡ f xs
+same_reversed f adds [] = refl
+same_reversed f adds (x ∷ xs) =
+    let e = ap f (reverse-cons x xs) in
+    omega (arith, e, adds (reverse xs) (x ∷ []), same_reversed f adds xs, adds (x ∷ []) xs)

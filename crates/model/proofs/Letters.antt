@@ -9,18 +9,7 @@ use Rattle.model.specs.Layout.{letter, started_by, letter_at, StepLetters}
 use Rattle.model.proofs.Counting.{count_none, count_split}
 use Rattle.std.proofs.lemmas.List.Concat.{flat_map-append}
 use Rattle.std.proofs.lemmas.Bool.Decides.{nat_tests}
-
--- the steps of one list of acts after those of another
-steps_append : (a b : List Act) (t : ℕ) (xs : List Exchange) → step_commands t (a ++ b) xs ≡ step_commands t a xs ++ step_commands (t + length a) b xs
-unfolding step_commands
-steps_append [] b t xs = rw (add-zero t)
-steps_append (act ∷ a) b t xs =
-    let e = steps_append a b (t + 1) xs in
-    let n : (t + 1) + length a ≡ t + suc (length a) = omega arith in
-    let g : step_commands (t + 1) (a ++ b) xs ≡ step_commands (t + 1) a xs ++ step_commands (t + suc (length a)) b xs =
-    subst (λ (k : ℕ). step_commands (t + 1) (a ++ b) xs ≡ step_commands (t + 1) a xs ++ step_commands k b xs) n e in
-    let f = append_assoc (map trade_command (starting_at t xs)) (act_command act ∷ step_commands (t + 1) a xs) (step_commands (t + suc (length a)) b xs) in
-    cc
+use Rattle.model.proofs.Writing.{steps_append}
 
 length_opens : (bs : List ℕ) → length (flat_map command_bytes (map Opens bs)) ≡ 3 * length bs
 length_opens [] = refl

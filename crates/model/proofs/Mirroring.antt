@@ -5,7 +5,7 @@ use Rattle.std.proofs.lemmas.List.{get_or-reverse, get_or-map, length-map, lengt
 use Rattle.model.specs.Timetable.{Exchange, none, Side, Forward, Backward, opposite, Act, Serve, Wait, Plan, Keeps, KeepsPlainly, Resident, Absent, ResidentDuring, occupies, served, waited, wanted}
 use Rattle.model.specs.Mirror.{remains, closing, reflected, mirrored}
 use Rattle.model.specs.MirrorLaws.{MirrorKeeps, MirrorAlike}
-use Rattle.model.proofs.Counting.{served_push, served_append, waited_push}
+use Rattle.model.proofs.Counting.{served_append, same_reversed, waited_append}
 use Rattle.model.proofs.Plainly.{plain_reading}
 use Rattle.model.proofs.Picked.{picked_rises, rising_each, rising_pairs}
 use Rattle.model.proofs.Reflected.{left_reflected, landed_reflected, brought_reflected, gone_until, here_when, closes_with, closing_fills}
@@ -17,30 +17,6 @@ at_reverse xs d i j e = get_or-reverse xs i d (omega arith) ∙ ap (λ (n : ℕ)
     at : length xs - 1 - i ≡ j
     at = omega arith
 
-served_reverse : (acts : List Act) → served (reverse acts) ≡ served acts
-unfolding served
-served_reverse [] = refl
-served_reverse (act ∷ acts) =
-    let e : served (reverse (act ∷ acts)) ≡ served (reverse acts ++ (act ∷ [])) = ap (λ (ps : List Act). served ps) (reverse-cons act acts) in
-    let f = served_push (reverse acts) act in
-    go act (e ∙ f) (served_reverse acts)
-  where
-    go : (a : Act) → served (reverse (a ∷ acts)) ≡ served (reverse acts) + served (a ∷ []) → served (reverse acts) ≡ served acts → served (reverse (a ∷ acts)) ≡ served (a ∷ acts)
-    go Serve e h = omega arith
-    go Wait e h = omega arith
-
-waited_reverse : (acts : List Act) → waited (reverse acts) ≡ waited acts
-unfolding waited
-waited_reverse [] = refl
-waited_reverse (act ∷ acts) =
-    let e : waited (reverse (act ∷ acts)) ≡ waited (reverse acts ++ (act ∷ [])) = ap (λ (ps : List Act). waited ps) (reverse-cons act acts) in
-    let f = waited_push (reverse acts) act in
-    go act (e ∙ f) (waited_reverse acts)
-  where
-    go : (a : Act) → waited (reverse (a ∷ acts)) ≡ waited (reverse acts) + waited (a ∷ []) → waited (reverse acts) ≡ waited acts → waited (reverse (a ∷ acts)) ≡ waited (a ∷ acts)
-    go Serve e h = omega arith
-    go Wait e h = omega arith
-
 -- a step that serves: the requests served before it, and in the mirror before its mirror, are all but its own
 served_across : (acts : List Act) (i t : ℕ) → i + t + 1 ≡ length acts → get_or acts t Wait ≡ Serve → served (take i (reverse acts)) + served (take t acts) + 1 ≡ served acts
 unfolding served
@@ -50,11 +26,11 @@ served_across acts i t e s =
     let long : length (reverse (drop (t + 1) acts)) ≡ i = omega (arith, length-reverse (drop (t + 1) acts), length-drop (t + 1) acts) in
     let front : take i (reverse acts) ≡ reverse (drop (t + 1) acts) = ap (λ (ps : List Act). take i ps) turns ∙ take_at (reverse (drop (t + 1) acts)) (reverse (take (t + 1) acts)) i long in
     let a : served (take i (reverse acts)) ≡ served (reverse (drop (t + 1) acts)) = ap (λ (ps : List Act). served ps) front in
-    let b = served_reverse (drop (t + 1) acts) in
+    let b = same_reversed served served_append (drop (t + 1) acts) in
     let c : served (take (t + 1) acts ++ drop (t + 1) acts) ≡ served acts = ap (λ (ps : List Act). served ps) joins in
     let d = served_append (take (t + 1) acts) (drop (t + 1) acts) in
     let g : served (take (t + 1) acts) ≡ served (take t acts ++ (get_or acts t Wait ∷ [])) = ap (λ (ps : List Act). served ps) (take_more acts t Wait (omega arith)) in
-    let h = served_push (take t acts) (get_or acts t Wait) in
+    let h = served_append (take t acts) (get_or acts t Wait ∷ []) in
     let one : served (get_or acts t Wait ∷ []) ≡ 1 = ap (λ (act : Act). served (act ∷ [])) s in
     omega arith
 
@@ -155,7 +131,7 @@ module _ (side : Side) (homes : List ℕ) (frames fetch : ℕ) (requests : List 
             (λ i j m l e. let d = plainly.apart i j m l (sym (occupies_reflected side homes T fetch (get_or xs i none)) ∙ (sym e ∙ occupies_reflected side homes T fetch (get_or xs j none))) in
             omega (arith, k.all_land i (omega arith), k.all_land j l));
         serves = serves_reflected;
-        all_served = served_reverse plan.acts ∙ (k.all_served ∙ sym (length-reverse requests));
+        all_served = same_reversed served served_append plan.acts ∙ (k.all_served ∙ sym (length-reverse requests));
         all_land = reflected_each T fetch xs (λ y. y.start + fetch ≤ length (reverse plan.acts)) (λ j l. omega (arith, k.all_land j l, length-reverse plan.acts));
       }
 
@@ -165,4 +141,4 @@ mirror_keeps side homes frames fetch requests plan f k =
 
 pub mirror_alike : MirrorAlike
 mirror_alike blocks fetch plan =
-    record { steps = length-reverse plan.acts; waits = waited_reverse plan.acts; trades = length_reflected (length plan.acts) fetch plan.exchanges }
+    record { steps = length-reverse plan.acts; waits = same_reversed waited waited_append plan.acts; trades = length_reflected (length plan.acts) fetch plan.exchanges }

@@ -6,7 +6,7 @@ use Rattle.model.specs.Timetable.{Exchange, none, count, home, Lawful, Side, occ
 use Rattle.model.specs.PlanBytes.{Opens, Trades, Serves, Waits, Ends}
 use Rattle.model.specs.Verdict.{Mark, Here, Away, is_here_at, is_away_at, State, Phase, Filling, Standing, Starting, Over, begin, blank_marks, blank_idle, after, most_blocks, most_disks}
 use Rattle.model.specs.Statements.{Fit}
-use Rattle.model.proofs.Counting.{home_push_same, home_push_other, served_push, waited_push}
+use Rattle.model.proofs.Counting.{home_push_same, home_push_other, served_append, waited_append}
 use Rattle.model.proofs.Marks.{Started, MarkIs, HereFrom, AwayFrom, mark_step, mark_other, mark_in, mark_out, away_absent, absent_away, here_resident, resident_here, still_resident, none_brings, none_sends, brought_before, left_before}
 
 -- what the phase says of acts and exchanges
@@ -248,9 +248,9 @@ module _ (side : Side) (homes : List ℕ) (frames fetch : ℕ) (requests : List 
         opened = h.opened;
         over_floor = h.over_floor;
         floor_low = h.floor_low;
-        position = omega (arith, h.position, served_push a Serve);
+        position = omega (arith, h.position, served_append a (Serve ∷ []));
         boundary = omega (arith, h.boundary, length_push a Serve);
-        waits = omega (arith, h.waits, waited_push a Serve);
+        waits = omega (arith, h.waits, waited_append a (Serve ∷ []));
         records = h.records;
         started = λ j l. omega (arith, h.started j l);
         landing_over = h.landing_over;
@@ -271,9 +271,9 @@ module _ (side : Side) (homes : List ℕ) (frames fetch : ℕ) (requests : List 
         opened = h.opened;
         over_floor = h.over_floor;
         floor_low = h.floor_low;
-        position = omega (arith, h.position, served_push a Wait);
+        position = omega (arith, h.position, served_append a (Wait ∷ []));
         boundary = omega (arith, h.boundary, length_push a Wait);
-        waits = omega (arith, h.waits, waited_push a Wait);
+        waits = omega (arith, h.waits, waited_append a (Wait ∷ []));
         records = h.records;
         started = λ j l. omega (arith, h.started j l);
         landing_over = h.landing_over;

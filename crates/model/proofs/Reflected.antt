@@ -4,7 +4,7 @@ use mathlib.Core.List.{reverse-cons}
 use Rattle.std.proofs.lemmas.Bool.{ne_eqb, eq-eqb, lt-ltb, le-ltb, le-leb, lt-leb, cases_lt, cases_eq}
 use Rattle.model.specs.Timetable.{Exchange, none, Side, Plan, Keeps, KeepsPlainly, home, landed, brought, left, count, bit}
 use Rattle.model.specs.Mirror.{remains, closing, reflected}
-use Rattle.model.proofs.Counting.{count_push, count_same, count_none, count_split}
+use Rattle.model.proofs.Counting.{count_push, count_same, count_none, count_split, same_reversed, count_append}
 use Rattle.model.proofs.Marks.{comings, goings, landed_brought, and_on}
 use Rattle.model.proofs.Plainly.{plain_reading}
 use Rattle.model.proofs.Places.{Chained, chained}
@@ -12,16 +12,7 @@ use Rattle.model.proofs.Picked.{Rising, rising_from, picked_rises, home_picked, 
 use Rattle.model.proofs.Steady.{Steady, steady, left_rises, brought_rises, left_more, brought_more, landed_started}
 use Rattle.std.proofs.lemmas.Bool.Decides.{nat_tests}
 
--- Counting over a list reversed, and over a list of images.
-count_reverse : (p : Exchange → Bool) (xs : List Exchange) → count p (reverse xs) ≡ count p xs
-unfolding count
-count_reverse p [] = refl
-count_reverse p (x ∷ xs) =
-    let e : count p (reverse (x ∷ xs)) ≡ count p (reverse xs ++ (x ∷ [])) = ap (λ (ys : List Exchange). count p ys) (reverse-cons x xs) in
-    let f = count_push p (reverse xs) x in
-    let g = count_reverse p xs in
-    omega arith
-
+-- Counting over a list of images.
 count_map : (p : Exchange → Bool) (g : Exchange → Exchange) (xs : List Exchange) → count p (map g xs) ≡ count (λ x. p (g x)) xs
 unfolding count
 count_map p g [] = refl
@@ -45,7 +36,7 @@ start_or_start s fetch T t u l e = grind (arith, nat_tests)
 -- Exchanges that all land by boundary T, and their mirrors.
 module _ (fetch T : ℕ) (xs : List Exchange) (lands : (j : ℕ) → j < length xs → (get_or xs j none).start + fetch ≤ T) (b : ℕ) where
   turns : (p : Exchange → Bool) → count p (reverse (map (reflected T fetch) xs)) ≡ count (λ x. p (reflected T fetch x)) xs
-  turns p = count_reverse p (map (reflected T fetch) xs) ∙ count_map p (reflected T fetch) xs
+  turns p = same_reversed (λ ys. count p ys) (count_append p) (map (reflected T fetch) xs) ∙ count_map p (reflected T fetch) xs
 
   pub left_reflected : (t u : ℕ) → t + u ≡ T → left (reverse (map (reflected T fetch) xs)) b t + landed fetch xs b u ≡ comings xs b
   left_reflected t u e =

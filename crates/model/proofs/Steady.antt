@@ -8,6 +8,7 @@ use Rattle.model.proofs.Counting.{count_push, count_same, count_le, count_tight}
 use Rattle.model.proofs.Marks.{Started, brought_before, left_before, brought_comings, left_goings, bit_and}
 use Rattle.model.proofs.Picked.{home_one}
 use Rattle.std.proofs.lemmas.Bool.Decides.{nat_tests}
+use Rattle.std.proofs.Math.Seq.{take-suc}
 
 -- a count up to a boundary grows with the boundary
 pub left_rises : (xs : List Exchange) (b t u : ℕ) → t ≤ u → left xs b t ≤ left xs b u
@@ -73,8 +74,7 @@ module _ (side : Side) (homes : List ℕ) (frames fetch : ℕ) (requests : List 
   steady_take zero l = steady_none fetch plan.opening b t
   steady_take (suc i) l =
       let xs : List Exchange = plan.exchanges in
-      let one : take (i + 1) xs ≡ take i xs ++ (get_or xs i none ∷ []) = take_more xs i none l in
-      let e : take (suc i) xs ≡ take i xs ++ (get_or xs i none ∷ []) = subst (λ (n : ℕ). take n xs ≡ take i xs ++ (get_or xs i none ∷ [])) (add-one i) one in
+      let e : take (suc i) xs ≡ take i xs ++ (get_or xs i none ∷ []) = take-suc xs i none l in
       subst (λ (ys : List Exchange). Steady fetch plan.opening ys b t) (sym e)
       (steady_push side homes fetch plan.opening (take i xs) (get_or xs i none) (k.lawful i l) (earlier i l) b t (steady_take i (omega arith)))
     where

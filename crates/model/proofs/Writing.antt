@@ -41,18 +41,23 @@ steps_late t (act ∷ a) xs x h =
     ne : t + suc (length a) ≤ x.start → x.start ≡ t → ⊥
     ne k e = omega arith
 
+-- the steps of one list of acts after those of another
+pub steps_append : (a b : List Act) (t : ℕ) (xs : List Exchange) → step_commands t (a ++ b) xs ≡ step_commands t a xs ++ step_commands (t + length a) b xs
+unfolding step_commands
+steps_append [] b t xs = rw (add-zero t)
+steps_append (act ∷ a) b t xs =
+    let e = steps_append a b (t + 1) xs in
+    let n : (t + 1) + length a ≡ t + suc (length a) = omega arith in
+    let g : step_commands (t + 1) (a ++ b) xs ≡ step_commands (t + 1) a xs ++ step_commands (t + suc (length a)) b xs =
+    subst (λ (k : ℕ). step_commands (t + 1) (a ++ b) xs ≡ step_commands (t + 1) a xs ++ step_commands k b xs) n e in
+    let f = append_assoc (map trade_command (starting_at t xs)) (act_command act ∷ step_commands (t + 1) a xs) (step_commands (t + suc (length a)) b xs) in
+    cc
+
 -- one step more
-pub steps_push : (t : ℕ) (a : List Act) (act : Act) (xs : List Exchange) →
+steps_push : (t : ℕ) (a : List Act) (act : Act) (xs : List Exchange) →
     step_commands t (a ++ (act ∷ [])) xs ≡ step_commands t a xs ++ (map trade_command (starting_at (t + length a) xs) ++ (act_command act ∷ []))
 unfolding step_commands
-steps_push t [] act xs = rw (add-zero t)
-steps_push t (b ∷ a) act xs =
-    let e = steps_push (t + 1) a act xs in
-    let n : (t + 1) + length a ≡ t + suc (length a) = omega arith in
-    let f = append_assoc (map trade_command (starting_at t xs)) (act_command b ∷ step_commands (t + 1) a xs) (map trade_command (starting_at (t + suc (length a)) xs) ++ (act_command act ∷ [])) in
-    let g : step_commands (t + 1) (a ++ (act ∷ [])) xs ≡ step_commands (t + 1) a xs ++ (map trade_command (starting_at (t + suc (length a)) xs) ++ (act_command act ∷ [])) =
-    subst (λ (k : ℕ). step_commands (t + 1) (a ++ (act ∷ [])) xs ≡ step_commands (t + 1) a xs ++ (map trade_command (starting_at k xs) ++ (act_command act ∷ []))) n e in
-    cc
+steps_push t a act xs = steps_append a (act ∷ []) t xs
 
 pub so_far_none : so_far [] [] [] ≡ []
 unfolding so_far step_commands starting_at

@@ -10,6 +10,7 @@ use Rattle.model.proofs.Plainly.{plain_reading}
 use Rattle.model.proofs.Picked.{sum_below, sum_both, sum_none, sum_one}
 use Rattle.std.proofs.Math.Seq.{take-suc}
 use Rattle.model.proofs.Reflected.{sum_count}
+use Rattle.model.proofs.Progress.{on_disks}
 
 module _ (side : Side) (homes : List ℕ) (fetch : ℕ) where
   abbrev on : ℕ → Exchange → Bool
@@ -58,12 +59,8 @@ few_exchanges side homes frames fetch requests plan fit k short = omega (arith, 
     plainly : KeepsPlainly side homes frames fetch requests plan
     plainly = (plain_reading side homes frames fetch requests plan fit.lasts).0 k
 
-    disk : (z : Side) (x : Exchange) → x.brings < length homes → x.sends < length homes → occupies z homes x < most_disks
-    disk Forward x i j = fit.on_disks x.brings i
-    disk Backward x i j = fit.on_disks x.sends j
-
     known : (j : ℕ) → j < length xs → occupies side homes (get_or xs j none) < most_disks
-    known j l = disk side (get_or xs j none) (plainly.knows_in j l) (plainly.knows_out j l)
+    known j l = on_disks side homes fetch fit (get_or xs j none) (plainly.knows_in j l) (plainly.knows_out j l)
 
     regroup : (f n : ℕ) → 2 * f * n ≡ 2 * n * f
     regroup f n = mul_assoc 2 f n ∙ (ap (λ (m : ℕ). 2 * m) (mul_comm f n) ∙ sym (mul_assoc 2 n f))

@@ -15,7 +15,7 @@ use Rattle.model.proofs.Sound.{later_sound}
 use Rattle.model.proofs.Turning.{Within, within_trades, one_disk, all_disks}
 use Rattle.model.proofs.Ending.{Runs, turn_goes, ready_fresh}
 use Rattle.model.proofs.Agreeing.{view_same}
-use Rattle.model.proofs.Only.{before_all}
+use Rattle.model.proofs.Gather.{before_all}
 
 -- what starts at boundary t leaves what started before an earlier one
 before_append : (u : ℕ) (xs ys : List Exchange) → before u (xs ++ ys) ≡ before u xs ++ before u ys

@@ -5,6 +5,7 @@ use Rattle.std.proofs.lemmas.Bool.{false≢true, eqb-true, eq-eqb, ne_eqb, lt-lt
 use Rattle.model.specs.Timetable.{Exchange, none, Act, Serve, Wait, Plan}
 use Rattle.model.specs.PlanBytes.{Command, Opens, Trades, Serves, Waits, Ends, act_command, trade_command, starting_at, step_commands, plan_commands, so_far}
 use Rattle.model.specs.Verdict.{Phase, Filling, Standing, Starting, Over, is_over, in_place}
+use Rattle.model.specs.Follows.{before, front_if}
 
 abbrev pub gather : List ℕ → List Act → List Exchange → List Command → Plan
 gather o a xs [] = record { opening = o; acts = a; exchanges = xs }
@@ -105,17 +106,13 @@ gather_trades (y ∷ ys) o a xs cs h =
     ap (λ (t : ℕ). gather o a (xs ++ (record { brings = y.brings; sends = y.sends; start = t } ∷ [])) (map trade_command ys ++ cs)) e
     ∙ (gather_trades ys o a (xs ++ (y ∷ [])) cs (λ j l. h (suc j) (omega arith)) ∙ ap (λ (zs : List Exchange). gather o a zs cs) (append_assoc xs (y ∷ []) ys))
 
--- the exchanges that start before a boundary
-unfoldable pub before : ℕ → List Exchange → List Exchange
-before t [] = []
-before t (x ∷ xs) = cond (ltb x.start t) (x ∷ before t xs) (before t xs)
-
-before_zero : (xs : List Exchange) → before 0 xs ≡ []
+-- the exchanges that start before a boundary: none, or all
+pub before_zero : (xs : List Exchange) → before 0 xs ≡ []
 unfolding before
 before_zero [] = refl
 before_zero (x ∷ xs) = rw (le-ltb x.start 0 (omega arith)) (before_zero xs)
 
-before_all : (t : ℕ) (xs : List Exchange) → ((j : ℕ) → j < length xs → (get_or xs j none).start < t) → before t xs ≡ xs
+pub before_all : (t : ℕ) (xs : List Exchange) → ((j : ℕ) → j < length xs → (get_or xs j none).start < t) → before t xs ≡ xs
 unfolding before
 before_all t [] h = refl
 before_all t (x ∷ xs) h = rw (lt-ltb x.start t (h 0 (omega arith))) (ap (λ (ys : List Exchange). x ∷ ys) (before_all t xs (λ j l. h (suc j) (omega arith))))
@@ -135,18 +132,12 @@ before_more t (x ∷ xs) h =
     go (before_more t xs (λ i j k l. h (suc i) (suc j) (omega arith) (omega arith))) (cases_order x.start t)
   where
     go : before (t + 1) xs ≡ before t xs ++ starting_at t xs → (x.start ≡ t) ⊎ ((x.start < t) ⊎ (t < x.start)) →
-        cond (ltb x.start (t + 1)) (x ∷ before (t + 1) xs) (before (t + 1) xs) ≡ cond (ltb x.start t) (x ∷ before t xs) (before t xs) ++ cond (eqb x.start t) (x ∷ starting_at t xs) (starting_at t xs)
+        front_if (ltb x.start (t + 1)) x (before (t + 1) xs) ≡ front_if (ltb x.start t) x (before t xs) ++ cond (eqb x.start t) (x ∷ starting_at t xs) (starting_at t xs)
     go e (inl i) =
         let n : before t xs ≡ [] = before_none t xs (λ j l. omega (arith, h 0 (suc j) (omega arith) (omega arith))) in
         rw (lt-ltb x.start (t + 1) (omega arith), le-ltb x.start t (omega arith), eq-eqb x.start t i, e, n)
-    go e (inr (inl i)) = rw (lt-ltb x.start (t + 1) (omega arith), lt-ltb x.start t i, ne_eqb x.start t (λ k. below k), e)
-      where
-        below : x.start ≡ t → ⊥
-        below k = omega arith
-    go e (inr (inr i)) = rw (le-ltb x.start (t + 1) (omega arith), le-ltb x.start t (omega arith), ne_eqb x.start t (λ k. above k), e)
-      where
-        above : x.start ≡ t → ⊥
-        above k = omega arith
+    go e (inr (inl i)) = rw (lt-ltb x.start (t + 1) (omega arith), lt-ltb x.start t i, ne_eqb x.start t (λ (k : x.start ≡ t). omega arith), e)
+    go e (inr (inr i)) = rw (le-ltb x.start (t + 1) (omega arith), le-ltb x.start t (omega arith), ne_eqb x.start t (λ (k : x.start ≡ t). omega arith), e)
 
 starting_starts : (t : ℕ) (xs : List Exchange) (j : ℕ) → j < length (starting_at t xs) → (get_or (starting_at t xs) j none).start ≡ t
 unfolding starting_at

@@ -11,9 +11,10 @@ use Rattle.model.specs.ViewLaws.{LawfulExact}
 use Rattle.model.proofs.Counting.{count_none}
 use Rattle.model.proofs.Marks.{Started, comings, goings, left_all, brought_all, landed_brought, none_brings, none_sends, brought_before, left_before}
 use Rattle.model.proofs.Plainly.{brought_front, left_front, landed_front}
-use Rattle.model.proofs.Seeing.{each_at}
+use Rattle.model.proofs.Seeing.{each_at, disk_late}
 use Rattle.model.proofs.Agreeing.{count_zero}
 use Rattle.model.proofs.Choosing.{four_all, lawful_parts}
+use Rattle.model.proofs.Progress.{on_disks}
 
 -- two conditions on a place, in one
 absent_not : (x y z : Bool) → (is_absent (cond x Place.Resident (cond y Place.Absent Place.InFlight)) && not z) ≡ true → (x ≡ false) × (y ≡ true) × (z ≡ false)
@@ -89,20 +90,6 @@ module _ (side : Side) (homes : List ℕ) (frames fetch : ℕ) (requests : List 
   free_is : (d : ℕ) → d < most_disks → is_free v d ≡ eqb (count (carried d) xs) 0
   free_is d l = each_at (free_at side homes frames fetch requests o xs t) most_disks d false l
 
-  disk_start : (p q n m : ℕ) → occupies side homes (record { brings = p; sends = q; start = n }) ≡ occupies side homes (record { brings = p; sends = q; start = m })
-  disk_start p q n m = go side
-    where
-      go : (z : Side) → occupies z homes (record { brings = p; sends = q; start = n }) ≡ occupies z homes (record { brings = p; sends = q; start = m })
-      go Forward = refl
-      go Backward = refl
-
-  disk_known : (p q n : ℕ) → p < length homes → q < length homes → occupies side homes (record { brings = p; sends = q; start = n }) < most_disks
-  disk_known p q n i j = go side
-    where
-      go : (z : Side) → occupies z homes (record { brings = p; sends = q; start = n }) < most_disks
-      go Forward = fit.on_disks p i
-      go Backward = fit.on_disks q j
-
   landed_on : (d : ℕ) → count (carried d) xs ≡ 0 → (j : ℕ) → j < length xs → occupies side homes (get_or xs j none) ≡ d → (get_or xs j none).start + fetch ≤ t
   landed_on d e j l i = ltb-false t ((get_or xs j none).start + fetch)
       (second (eqb (occupies side homes (get_or xs j none)) d) (ltb t ((get_or xs j none).start + fetch)) (eq-eqb (occupies side homes (get_or xs j none)) d i) (count_zero (carried d) xs e j l))
@@ -124,14 +111,14 @@ module _ (side : Side) (homes : List ℕ) (frames fetch : ℕ) (requests : List 
       let x = absent_not (resident_test p) (absent_test p) (named_at xs t p) (sym (missing_is p k.known_in) ∙ k.comes) in
       let y = resident_not (resident_test q) (absent_test q) (named_at xs t q) (sym (out_is q k.known_out) ∙ k.goes) in
       let d : ℕ = occupies side homes (record { brings = p; sends = q; start = 0 }) in
-      let free : count (carried d) xs ≡ 0 = eqb-true (count (carried d) xs) 0 (sym (free_is d (disk_known p q 0 k.known_in k.known_out)) ∙ k.on_free) in
+      let free : count (carried d) xs ≡ 0 = eqb-true (count (carried d) xs) 0 (sym (free_is d (on_disks side homes fetch fit (record { brings = p; sends = q; start = 0 }) k.known_in k.known_out)) ∙ k.on_free) in
       record {
         knows_in = k.known_in;
         knows_out = k.known_out;
         comes = eqb-true (home o p + brought xs p t) (left xs p t) x.1;
         alone = none_brings xs p t (not_named p x.2).0;
         goes = record { resident = eqb-true (home o q + landed fetch xs q t) (left xs q t + 1) y.0; kept = none_sends xs q t (not_named q y.1).1 };
-        disk_free = λ j l i. landed_on d free j l (i ∙ disk_start p q t 0);
+        disk_free = λ j l i. landed_on d free j l (i ∙ disk_late side homes p q t 0);
       }
 
   meant : (p q : ℕ) → Lawful side homes fetch o xs (record { brings = p; sends = q; start = t }) → lawful v p q ≡ true
@@ -142,7 +129,7 @@ module _ (side : Side) (homes : List ℕ) (frames fetch : ℕ) (requests : List 
       (un_named p (brought_before xs p t started k.alone) (left_before xs p t started (absent_stays p k.comes))))
       (out_is q k.knows_out ∙ go (resident_test q) (absent_test q) (named_at xs t q) (eq-eqb (home o q + landed fetch xs q t) (left xs q t + 1) k.goes.resident)
       (un_named q (brought_before xs q t started (resident_stays q k.goes.resident)) (left_before xs q t started k.goes.kept)))
-      (free_is d (disk_known p q 0 k.knows_in k.knows_out) ∙ eq-eqb (count (carried d) xs) 0 (all_landed d (λ j l i. k.disk_free j l (i ∙ disk_start p q 0 t))))
+      (free_is d (on_disks side homes fetch fit (record { brings = p; sends = q; start = 0 }) k.knows_in k.knows_out) ∙ eq-eqb (count (carried d) xs) 0 (all_landed d (λ j l i. k.disk_free j l (i ∙ disk_late side homes p q 0 t))))
     where
       not_here : home o p + landed fetch xs p t ≡ left xs p t + 1 → ⊥
       not_here e = omega (arith, k.comes, landed_brought fetch fit.lasts xs p t)

@@ -1,10 +1,11 @@
 -- At most one plan follows a rule.
 use Rattle.std.proofs.Common.{◌≡◌, ℕ, zero, suc, ◌+◌, ◌<◌, ◌≤◌, Bool, true, false, ◌&&◌, eqb, ltb, leb, ◌⊎◌, List, [], ◌∷◌, ◌++◌, length, get_or, take, sym, refl, ap, ◌∙◌, subst, inl, inr, add-one, arith}
 use Rattle.std.proofs.lemmas.List.{take_more, take_all}
-use Rattle.std.proofs.lemmas.Bool.{false≢true, lt-ltb, ltb-true, leb-true, le-ltb, cases_order}
+use Rattle.std.proofs.lemmas.Bool.{false≢true, lt-ltb, ltb-true, leb-true, le-ltb, cases_order, and_parts}
 use Rattle.model.specs.Timetable.{Exchange, none, Act, Serve, Wait, Side, Plan, bit, count, home, landed, left, served, wanted, ResidentDuring}
 use Rattle.model.specs.Rules.{Rule}
 use Rattle.model.specs.Follows.{before, front_if, with_answers, Follows}
+use Rattle.model.proofs.Gather.{before_zero, before_all}
 
 -- a test that passes only before boundary u counts the same before it
 count_before : (p : Exchange → Bool) (u : ℕ) → ((x : Exchange) → p x ≡ true → x.start < u) → (xs : List Exchange) → count p (before u xs) ≡ count p xs
@@ -17,16 +18,12 @@ count_before p u h (x ∷ xs) = go (ltb x.start u) refl (p x) refl (count_before
     go false e true f k = absurd (false≢true (sym e ∙ lt-ltb x.start u (h x f)))
     go false e false f k = let z : bit (p x) ≡ 0 = ap bit f in omega arith
 
-and_second : (p q : Bool) → (p && q) ≡ true → q ≡ true
-and_second true q e = e
-and_second false q e = absurd (false≢true e)
-
 -- what is resident during step t is told by the exchanges that start up to it
 pub during_before : (fetch : ℕ) (o : List ℕ) (xs : List Exchange) (b t : ℕ) →
     (home o b + landed fetch (before (t + 1) xs) b t ≡ home o b + landed fetch xs b t) × (left (before (t + 1) xs) b (t + 1) ≡ left xs b (t + 1))
 during_before fetch o xs b t = (
-  ap (λ (n : ℕ). home o b + n) (count_before (λ x. eqb x.brings b && leb (x.start + fetch) t) (t + 1) (λ x e. omega (arith, leb-true (x.start + fetch) t (and_second (eqb x.brings b) (leb (x.start + fetch) t) e))) xs),
-  count_before (λ x. eqb x.sends b && ltb x.start (t + 1)) (t + 1) (λ x e. ltb-true x.start (t + 1) (and_second (eqb x.sends b) (ltb x.start (t + 1)) e)) xs,
+  ap (λ (n : ℕ). home o b + n) (count_before (λ x. eqb x.brings b && leb (x.start + fetch) t) (t + 1) (λ x e. omega (arith, leb-true (x.start + fetch) t (and_parts (eqb x.brings b) (leb (x.start + fetch) t) e).1)) xs),
+  count_before (λ x. eqb x.sends b && ltb x.start (t + 1)) (t + 1) (λ x e. ltb-true x.start (t + 1) (and_parts (eqb x.sends b) (ltb x.start (t + 1)) e).1) xs,
 )
 
 pub during_up : (fetch : ℕ) (o : List ℕ) (xs : List Exchange) (b t : ℕ) → ResidentDuring fetch o (before (t + 1) xs) b t → ResidentDuring fetch o xs b t
@@ -34,18 +31,6 @@ during_up fetch o xs b t r = let e = during_before fetch o xs b t in omega (arit
 
 pub during_down : (fetch : ℕ) (o : List ℕ) (xs : List Exchange) (b t : ℕ) → ResidentDuring fetch o xs b t → ResidentDuring fetch o (before (t + 1) xs) b t
 during_down fetch o xs b t r = let e = during_before fetch o xs b t in omega (arith, e.0, e.1)
-
--- all start before boundary u
-pub before_all : (u : ℕ) (xs : List Exchange) → ((j : ℕ) → j < length xs → (get_or xs j none).start < u) → before u xs ≡ xs
-unfolding before
-before_all u [] h = refl
-before_all u (x ∷ xs) h = rw (lt-ltb x.start u (h 0 (omega arith))) (ap (λ (ys : List Exchange). x ∷ ys) (before_all u xs (λ j l. h (suc j) (omega arith))))
-
--- none does
-pub before_none : (xs : List Exchange) → before 0 xs ≡ []
-unfolding before
-before_none [] = refl
-before_none (x ∷ xs) = rw (le-ltb x.start 0 (omega arith)) (before_none xs)
 
 module _ (side : Side) (homes : List ℕ) (frames fetch : ℕ) (requests o : List ℕ) (rule : Rule) (p q : Plan)
     (f : Follows side homes frames fetch requests o rule p) (g : Follows side homes frames fetch requests o rule q) where
@@ -57,11 +42,8 @@ module _ (side : Side) (homes : List ℕ) (frames fetch : ℕ) (requests o : Lis
   act_cases Serve = inl refl
   act_cases Wait = inr refl
 
-  wait_serve : Wait ≡ Serve → ⊥
-  wait_serve e = let z : ◌≡◌ {A = ℕ} 0 1 = cc in omega arith
-
   agree : (t : ℕ) → t ≤ length p.acts → t ≤ length q.acts → Agree t
-  agree zero i j = record { acts = refl; starts = before_none p.exchanges ∙ sym (before_none q.exchanges) }
+  agree zero i j = record { acts = refl; starts = before_zero p.exchanges ∙ sym (before_zero q.exchanges) }
   agree (suc t) i j = subst (λ (n : ℕ). Agree n) (add-one t) (go (agree t (omega arith) (omega arith)))
     where
       k : t < length p.acts
@@ -92,8 +74,8 @@ module _ (side : Side) (homes : List ℕ) (frames fetch : ℕ) (requests o : Lis
               act : (get_or p.acts t Wait ≡ Serve) ⊎ (get_or p.acts t Wait ≡ Wait) → (get_or q.acts t Wait ≡ Serve) ⊎ (get_or q.acts t Wait ≡ Wait) → get_or p.acts t Wait ≡ get_or q.acts t Wait
               act (inl a) (inl b) = a ∙ sym b
               act (inr a) (inr b) = a ∙ sym b
-              act (inl a) (inr b) = absurd (wait_serve (sym b ∙ g.serves_if t l (across p q same position (f.serves_only t k a))))
-              act (inr a) (inl b) = absurd (wait_serve (sym a ∙ f.serves_if t k (across q p (sym same) (sym position) (g.serves_only t l b))))
+              act (inl a) (inr b) = let c = g.serves_if t l (across p q same position (f.serves_only t k a)) in absurd (cc)
+              act (inr a) (inl b) = let c = f.serves_if t k (across q p (sym same) (sym position) (g.serves_only t l b)) in absurd (cc)
 
           more : take (t + 1) p.acts ≡ take (t + 1) q.acts
           more = take_more p.acts t Wait k ∙ (ap (λ (a : List Act). a ++ (get_or p.acts t Wait ∷ [])) h.acts

@@ -97,6 +97,11 @@ unfolding count
 mark_opens fetch o t b =
     record { one = omega (arith, home_push_same o b); stays = refl; lands = λ u i j. refl; flies = λ u i j. absurd (omega arith) }
 
+-- an exchange of known blocks occupies one of the disks
+pub on_disks : (side : Side) (homes : List ℕ) (fetch : ℕ) → Fit homes fetch → (x : Exchange) → x.brings < length homes → x.sends < length homes → occupies side homes x < most_disks
+on_disks Forward homes fetch fit x i j = fit.on_disks x.brings i
+on_disks Backward homes fetch fit x i j = fit.on_disks x.sends j
+
 module _ (side : Side) (homes : List ℕ) (frames fetch : ℕ) (requests : List ℕ) (room : ℕ) (fit : Fit homes fetch) where
   pub tells_opens : (o : List ℕ) (s : State) (b : ℕ) → Tells side homes fetch o [] [] s → s.floor ≤ b → b < length homes →
       Tells side homes fetch (o ++ (b ∷ [])) [] [] (after side homes frames fetch requests room s (Opens b))
@@ -144,10 +149,6 @@ module _ (side : Side) (homes : List ℕ) (frames fetch : ℕ) (requests : List 
     mark_out_by : (m : Mark) → (p ≡ q → ⊥) → MarkIs fetch o xs s.boundary q m → is_here_at m s.boundary ≡ true → AwayFrom fetch o (xs ++ (fresh ∷ [])) s.boundary q (s.boundary + 1)
     mark_out_by (Away g) ne k e = absurd (false≢true e)
     mark_out_by (Here l) ne k e = mark_out fetch fit.lasts o xs fresh l ne (leb-true l s.boundary e) k
-
-    known_disk : (z : Side) → p < length homes → q < length homes → occupies z homes fresh < most_disks
-    known_disk Forward kp kq = fit.on_disks p kp
-    known_disk Backward kp kq = fit.on_disks q kq
 
     pub lawful_from : p < length homes → q < length homes → is_away_at (get_or s.marks p (Away 0)) s.boundary ≡ true → is_here_at (get_or s.marks q (Away 0)) s.boundary ≡ true →
         get_or s.idle (occupies side homes fresh) 0 ≤ s.boundary → Lawful side homes fetch o xs fresh
@@ -227,7 +228,7 @@ module _ (side : Side) (homes : List ℕ) (frames fetch : ℕ) (requests : List 
             (mark_other fetch fit.lasts o xs fresh c (get_or s.marks c (Away 0)) (λ u. i (sym u)) (λ u. v (sym u)) (h.marks c))
 
         idle_same : get_or idles disk 0 ≡ s.boundary + fetch
-        idle_same = get_or-set_same s.idle disk (s.boundary + fetch) 0 (omega (arith, h.size_idle, known_disk side kp kq))
+        idle_same = get_or-set_same s.idle disk (s.boundary + fetch) 0 (omega (arith, h.size_idle, on_disks side homes fetch fit fresh kp kq))
 
         over : (j : ℕ) → j < length xs → (occupies side homes (get_or xs j none) ≡ disk) ⊎ (occupies side homes (get_or xs j none) ≡ disk → ⊥) →
             (get_or xs j none).start + fetch ≤ get_or idles (occupies side homes (get_or xs j none)) 0

@@ -82,6 +82,11 @@ use_requested v b h =
       is = sym (get_or-drop v.position v.requests j.0 0) ∙ eqb-true (get_or (drop v.position v.requests) j.0 0) b j.2;
     }
 
+-- the disk of an exchange does not depend on its start
+pub disk_late : (side : Side) (homes : List ℕ) (p q t u : ℕ) → occupies side homes (record { brings = p; sends = q; start = t }) ≡ occupies side homes (record { brings = p; sends = q; start = u })
+disk_late Forward homes p q t u = refl
+disk_late Backward homes p q t u = refl
+
 module _ (side : Side) (homes : List ℕ) (frames fetch : ℕ) (requests : List ℕ) (s : State) where
   pub sees_missing : (b : ℕ) → b < length homes → missing (seen side homes frames fetch requests s) b ≡ is_away_at (mark s b) s.boundary
   sees_missing b l =
@@ -114,10 +119,6 @@ module _ (side : Side) (homes : List ℕ) (frames fetch : ℕ) (requests : List 
     pub here : is_here_at (mark s q) s.boundary ≡ true
     pub idle : idle_from s (occupies side homes (record { brings = p; sends = q; start = s.boundary })) ≤ s.boundary
 
-  disk_late : (z : Side) (p q t u : ℕ) → occupies z homes (record { brings = p; sends = q; start = t }) ≡ occupies z homes (record { brings = p; sends = q; start = u })
-  disk_late Forward p q t u = refl
-  disk_late Backward p q t u = refl
-
   pub lawful_takes : (p q : ℕ) → lawful (seen side homes frames fetch requests s) p q ≡ true → Takes p q
   lawful_takes p q e =
       let k = lawful_parts (seen side homes frames fetch requests s) p q e in
@@ -126,10 +127,10 @@ module _ (side : Side) (homes : List ℕ) (frames fetch : ℕ) (requests : List 
         known_out = k.known_out;
         away = sym (sees_missing p k.known_in) ∙ k.comes;
         here = sym (sees_out q k.known_out) ∙ k.goes;
-        idle = subst (λ (d : ℕ). idle_from s d ≤ s.boundary) (disk_late side p q 0 s.boundary) (is_free_lem (disk_of (seen side homes frames fetch requests s) p q) k.on_free);
+        idle = subst (λ (d : ℕ). idle_from s d ≤ s.boundary) (disk_late side homes p q 0 s.boundary) (is_free_lem (disk_of (seen side homes frames fetch requests s) p q) k.on_free);
       }
 
   pub takes_lawful : (p q : ℕ) → Takes p q → occupies side homes (record { brings = p; sends = q; start = 0 }) < length s.idle → lawful (seen side homes frames fetch requests s) p q ≡ true
   takes_lawful p q k l =
       four_all _ _ _ _ (lt-ltb p (length homes) k.known_in) (sees_missing p k.known_in ∙ k.away) (sees_out q k.known_out ∙ k.here)
-      (sees_free _ l ∙ le-leb (idle_from s (occupies side homes (record { brings = p; sends = q; start = 0 }))) s.boundary (subst (λ (d : ℕ). idle_from s d ≤ s.boundary) (disk_late side p q s.boundary 0) k.idle))
+      (sees_free _ l ∙ le-leb (idle_from s (occupies side homes (record { brings = p; sends = q; start = 0 }))) s.boundary (subst (λ (d : ℕ). idle_from s d ≤ s.boundary) (disk_late side homes p q s.boundary 0) k.idle))

@@ -8,7 +8,7 @@ use Rattle.model.specs.Verdict.{Mark, Away, Here, is_away_at, is_here_at, State,
 use Rattle.model.specs.Statements.{Fit}
 use Rattle.model.specs.Pass.{starts}
 use Rattle.model.proofs.Marks.{Started, here_resident, landed_late, left_late}
-use Rattle.model.proofs.Progress.{Tells, tells_trades, tells_serves, tells_waits, lawful_from, each_push}
+use Rattle.model.proofs.Progress.{Tells, tells_trades, tells_serves, tells_waits, lawful_from, each_push, on_disks}
 use Rattle.model.proofs.Accepts.{Sofar, sofar_trades, sofar_act}
 use Rattle.model.proofs.Seeing.{mark, idle_from, Requested, Takes}
 
@@ -82,11 +82,7 @@ module _ (side : Side) (homes : List ℕ) (frames fetch : ℕ) (requests : List 
     differ e = here_away (mark s q) was_here.0 was_away.0 was_here.1 (subst (λ (n : ℕ). mark s n ≡ Away was_away.0) e was_away.1)
 
     disk_known : disk < most_disks
-    disk_known = go side
-      where
-        go : (z : Side) → occupies z homes x < most_disks
-        go Forward = fit.on_disks p k.known_in
-        go Backward = fit.on_disks q k.known_out
+    disk_known = on_disks side homes fetch fit x k.known_in k.known_out
 
     pub new_in : mark next p ≡ Here (s.boundary + fetch)
     unfolding after

@@ -10,6 +10,7 @@ use Rattle.model.specs.Pass.{seen, starts, screened, takes_ahead, takes_need, as
 use Rattle.model.proofs.Choosing.{all_four}
 use Rattle.model.proofs.Seeing.{mark, idle_from, Requested, Takes, use_requested, sees_missing, lawful_takes, takes_lawful}
 use Rattle.model.proofs.Sound.{Sound, later_sound, sound_trades, new_in, new_other, other_idle, away_is, here_is, here_away}
+use Rattle.model.proofs.Progress.{on_disks}
 
 not_eq : (a b : ℕ) → not (eqb a b) ≡ true → a ≡ b → ⊥
 not_eq a b e i = both_ways (eqb a b) (not-true (eqb a b) e) (eq-eqb a b i)
@@ -165,15 +166,11 @@ module _ (side : Side) (homes : List ℕ) (frames fetch : ℕ) (requests : List 
   wants : is_away_at (mark s c) t ≡ true → Wants v
   wants e = record { asked = left; known = c_known; away = sees_missing side homes frames fetch requests s c c_known ∙ e }
 
-  disk_below : (y : Side) (p q n : ℕ) → p < length homes → q < length homes → occupies y homes (record { brings = p; sends = q; start = n }) < most_disks
-  disk_below Forward p q n i j = fit.on_disks p i
-  disk_below Backward p q n i j = fit.on_disks q j
-
   -- need's law: where it names none, nothing can come out for the block at the position
   no_takes : is_away_at (mark s c) t ≡ true → rule.need v ≡ None → (q : ℕ) → Takes side homes frames fetch requests s c q → ⊥
   no_takes e f q k =
       both_ways (lawful v c q) (law.else_none v (wants e) f q)
-      (takes_lawful side homes frames fetch requests s c q k (omega (arith, disk_below side c q 0 k.known_in k.known_out, sound.tells_it.size_idle)))
+      (takes_lawful side homes frames fetch requests s c q k (omega (arith, on_disks side homes fetch fit (record { brings = c; sends = q; start = 0 }) k.known_in k.known_out, sound.tells_it.size_idle)))
 
   here_by : (m : Mark) (l n : ℕ) → m ≡ Here l → l ≤ n → is_here_at m n ≡ true
   here_by m l n e i = subst (λ (x : Mark). is_here_at x n ≡ true) (sym e) (le-leb l n i)

@@ -111,35 +111,41 @@ count_zero p (x ∷ xs) e zero l = off (p x) e
     off false e = refl
 count_zero p (x ∷ xs) e (suc j) l = count_zero p xs (omega arith) j (omega arith)
 
+-- An exchange that is under way on a disk at a boundary.
+abbrev pub carried : Side → List ℕ → ℕ → ℕ → ℕ → Exchange → Bool
+carried side homes fetch t d x = eqb (occupies side homes x) d && ltb t (x.start + fetch)
+
+-- none is, exactly if all of that disk have landed
+module _ (side : Side) (homes : List ℕ) (fetch : ℕ) (xs : List Exchange) (t d : ℕ) where
+  pub landed_on : count (carried side homes fetch t d) xs ≡ 0 → (j : ℕ) → j < length xs → occupies side homes (get_or xs j none) ≡ d → (get_or xs j none).start + fetch ≤ t
+  landed_on e j l i =
+      let c = count_zero (carried side homes fetch t d) xs e j l in
+      let f = eq-eqb (occupies side homes (get_or xs j none)) d i in
+      ltb-false t ((get_or xs j none).start + fetch) (second (eqb (occupies side homes (get_or xs j none)) d) (ltb t ((get_or xs j none).start + fetch)) f c)
+    where
+      second : (x y : Bool) → x ≡ true → (x && y) ≡ false → y ≡ false
+      second true y e f = f
+      second false y e f = absurd (false≢true e)
+
+  pub all_landed : ((j : ℕ) → j < length xs → occupies side homes (get_or xs j none) ≡ d → (get_or xs j none).start + fetch ≤ t) → count (carried side homes fetch t d) xs ≡ 0
+  all_landed h = count_none (carried side homes fetch t d) xs (λ j l. off (get_or xs j none) (cases_eq (occupies side homes (get_or xs j none)) d) (h j l))
+    where
+      off : (x : Exchange) → (occupies side homes x ≡ d) ⊎ (occupies side homes x ≡ d → ⊥) → (occupies side homes x ≡ d → x.start + fetch ≤ t) → carried side homes fetch t d x ≡ false
+      off x (inl i) k = rw (eq-eqb (occupies side homes x) d i) (le-ltb t (x.start + fetch) (k i))
+      off x (inr i) k = rw (ne_eqb (occupies side homes x) d i)
+
 module _ (side : Side) (homes : List ℕ) (frames fetch : ℕ) (requests : List ℕ) (lasts : 0 < fetch) (o : List ℕ) (a : List Act) (s : State)
     (h : Tells side homes fetch o a s.records s) where
-  abbrev carried : ℕ → Exchange → Bool
-  carried d x = eqb (occupies side homes x) d && ltb s.boundary (x.start + fetch)
-
   free_same : (d : ℕ) → leb (idle_from s d) s.boundary ≡ free_at side homes frames fetch requests o s.records s.boundary d
   free_same d = go (cases_lt s.boundary (idle_from s d))
     where
-      landed_all : count (carried d) s.records ≡ 0 → (j : ℕ) → j < length s.records → occupies side homes (get_or s.records j none) ≡ d → (get_or s.records j none).start + fetch ≤ s.boundary
-      landed_all e j l i = ltb-false s.boundary ((get_or s.records j none).start + fetch)
-          (second (eqb (occupies side homes (get_or s.records j none)) d) (ltb s.boundary ((get_or s.records j none).start + fetch)) (eq-eqb (occupies side homes (get_or s.records j none)) d i) (count_zero (carried d) s.records e j l))
-        where
-          second : (x y : Bool) → x ≡ true → (x && y) ≡ false → y ≡ false
-          second true y e f = f
-          second false y e f = absurd (false≢true e)
+      under_way : ℕ
+      under_way = count (carried side homes fetch s.boundary d) s.records
 
-      go : (s.boundary < idle_from s d) ⊎ (idle_from s d ≤ s.boundary) → leb (idle_from s d) s.boundary ≡ eqb (count (carried d) s.records) 0
-      go (inl l) = lt-leb (idle_from s d) s.boundary l ∙ sym (ne_eqb (count (carried d) s.records) 0 (λ e. late (h.idle_low d s.boundary (landed_all e))))
-        where
-          late : idle_from s d ≤ s.boundary → ⊥
-          late m = omega arith
-      go (inr l) = le-leb (idle_from s d) s.boundary l ∙ sym (eq-eqb (count (carried d) s.records) 0 (count_none (carried d) s.records (λ j m. none_late (get_or s.records j none) (h.idle_over j m))))
-        where
-          none_late : (x : Exchange) → x.start + fetch ≤ idle_from s (occupies side homes x) → carried d x ≡ false
-          none_late x m = on (cases_eq (occupies side homes x) d)
-            where
-              on : (occupies side homes x ≡ d) ⊎ (occupies side homes x ≡ d → ⊥) → carried d x ≡ false
-              on (inl i) = rw (eq-eqb (occupies side homes x) d i) (le-ltb s.boundary (x.start + fetch) (omega (arith, ap (λ (n : ℕ). idle_from s n) i)))
-              on (inr i) = rw (ne_eqb (occupies side homes x) d i)
+      go : (s.boundary < idle_from s d) ⊎ (idle_from s d ≤ s.boundary) → leb (idle_from s d) s.boundary ≡ eqb under_way 0
+      go (inl l) = lt-leb (idle_from s d) s.boundary l ∙ sym (ne_eqb under_way 0 (λ e. let m = h.idle_low d s.boundary (landed_on side homes fetch s.records s.boundary d e) in omega arith))
+      go (inr l) = le-leb (idle_from s d) s.boundary l
+          ∙ sym (eq-eqb under_way 0 (all_landed side homes fetch s.records s.boundary d (λ j m i. omega (arith, h.idle_over j m, ap (λ (n : ℕ). idle_from s n) i))))
 
   frees_same : map (λ f. leb f s.boundary) s.idle ≡ each (free_at side homes frames fetch requests o s.records s.boundary) most_disks
   frees_same = ext_get_or false (map (λ f. leb f s.boundary) s.idle) (each (free_at side homes frames fetch requests o s.records s.boundary) most_disks)

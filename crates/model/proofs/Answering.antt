@@ -6,6 +6,7 @@ use Rattle.model.specs.Timetable.{Forward}
 use Rattle.model.specs.View.{Option, None, Some, View, Absent, Resident, blocks, may_go_out, next_use, first_at, first_from, better_if, greatest, latest_of}
 use Rattle.model.specs.ViewLaws.{FirstIs, FirstsExact, LatestIs, LatestsExact, SilenceBreaksTheLaw}
 use Rattle.model.proofs.Choosing.{latest_none, greatest_none}
+use Rattle.std.proofs.lemmas.Option.{same_Some}
 
 -- first, over a list whose head stands at a position
 record At (test : ℕ → Bool) (rs : List ℕ) (at k : ℕ) : Type 0 where
@@ -64,15 +65,9 @@ record Top (p : ℕ → Bool) (key : ℕ → ℕ) (n b : ℕ) : Type 0 where
   lowest : (c : ℕ) → c < b → p c ≡ true → key c < key b
 
 module _ (p : ℕ → Bool) (key : ℕ → ℕ) where
-  some_same : (a b : ℕ) → Some a ≡ Some b → a ≡ b
-  some_same a b e = cc
-
-  none_some : (b : ℕ) → None ≡ Some b → ⊥
-  none_some b e = let z : ◌≡◌ {A = ℕ} 0 1 = cc in omega arith
-
   top : (n b : ℕ) → greatest p key n ≡ Some b → Top p key n b
   unfolding greatest
-  top zero b e = absurd (none_some b e)
+  top zero b e = absurd (cc)
   top (suc n) b e = go (p n) refl (greatest p key n) refl (λ c f. top n c f) e
     where
       up : Top p key n b → (p n ≡ true → key n ≤ key b) → Top p key (suc n) b
@@ -92,12 +87,12 @@ module _ (p : ℕ → Bool) (key : ℕ → ℕ) where
 
       go : (x : Bool) → p n ≡ x → (y : Option ℕ) → greatest p key n ≡ y → ((c : ℕ) → y ≡ Some c → Top p key n c) → better_if x key n y ≡ Some b → Top p key (suc n) b
       go false f y g h e = up (h b e) (λ k. absurd (both_ways (p n) f k))
-      go true f None g h e = new 0 f (λ c l k. absurd (both_ways (p c) (greatest_none p key n g c l) k)) (some_same n b e)
+      go true f None g h e = new 0 f (λ c l k. absurd (both_ways (p c) (greatest_none p key n g c l) k)) (same_Some n b e)
       go true f (Some m) g h e = pick (ltb (key m) (key n)) refl e
         where
           pick : (z : Bool) → ltb (key m) (key n) ≡ z → cond z (Some n) (Some m) ≡ Some b → Top p key (suc n) b
-          pick true i e = new m f (λ c l k. omega (arith, (h m refl).most c l k, ltb-true (key m) (key n) i)) (some_same n b e)
-          pick false i e = up (h b e) (λ k. subst (λ (x : ℕ). key n ≤ key x) (some_same m b e) (ltb-false (key m) (key n) i))
+          pick true i e = new m f (λ c l k. omega (arith, (h m refl).most c l k, ltb-true (key m) (key n) i)) (same_Some n b e)
+          pick false i e = up (h b e) (λ k. subst (λ (x : ℕ). key n ≤ key x) (same_Some m b e) (ltb-false (key m) (key n) i))
 
 known_out : (v : View) (b : ℕ) → may_go_out v b ≡ true → b < blocks v
 known_out v b e = ltb-true b (blocks v) (and_parts (ltb b (blocks v)) _ e).0

@@ -1,14 +1,10 @@
 -- Need's law for the two rules, on both sides.
 use Rattle.std.proofs.Common.{◌≡◌, ℕ, zero, suc, ◌+◌, ◌<◌, ◌≤◌, Bool, true, false, cond, ◌&&◌, eqb, ltb, ◌⊎◌, [], ◌∷◌, length, get_or, sym, refl, ap, ◌∙◌, subst, inl, inr, arith}
 use Rattle.std.proofs.lemmas.List.{get_or_past}
-use Rattle.std.proofs.lemmas.Bool.{false≢true, both_ways, and_parts, and_from, ltb-true, lt-ltb, eqb-true, eq-eqb, cases_eq, cases_lt}
+use Rattle.std.proofs.lemmas.Bool.{false≢true, both_ways, and_parts, and_from, ltb-true, lt-ltb, eqb-true, eq-eqb, cases_eq, cases_lt, false_from_ne_true}
 use Rattle.model.specs.Timetable.{Side, Forward, Backward, occupies}
 use Rattle.model.specs.View.{Option, None, Some, View, blocks, wanted_block, is_free, missing, may_go_out, lawful, all_of, disk_of, next_use, better_if, greatest, latest, latest_on, latest_of}
 use Rattle.model.specs.Rules.{Wants, NeedLaw, or_else, lowest_free, aggressive, aggressive_need, demand}
-
-pub refute : (t : Bool) → (t ≡ true → ⊥) → t ≡ false
-refute true h = absurd (h refl)
-refute false h = refl
 
 -- four tests that all pass
 pub all_four : (p q r s : Bool) → all_of (p ∷ q ∷ r ∷ s ∷ []) ≡ true → (p ≡ true) × (q ≡ true) × (r ≡ true) × (s ≡ true)
@@ -23,9 +19,6 @@ all_four false q r s e = absurd (false≢true e)
 
 pub four_all : (p q r s : Bool) → p ≡ true → q ≡ true → r ≡ true → s ≡ true → all_of (p ∷ q ∷ r ∷ s ∷ []) ≡ true
 four_all p q r s a b c d = rw (a, b, c, d)
-
-some_none : {X : Type 0} (x : X) → Some x ≡ None → ⊥
-some_none x e = let z : ◌≡◌ {A = ℕ} 0 1 = cc in omega arith
 
 -- What a lawful exchange says.
 pub record IsLawful (v : View) (a b : ℕ) : Type 0 where
@@ -53,16 +46,16 @@ module _ (p : ℕ → Bool) (key : ℕ → ℕ) where
 
   pub greatest_some : (n b : ℕ) → greatest p key n ≡ Some b → (b < n) × (p b ≡ true)
   unfolding greatest
-  greatest_some zero b e = absurd (some_none b (sym e))
+  greatest_some zero b e = absurd (cc)
   greatest_some (suc n) b e = picks n b (p n) (greatest p key n) refl (λ c f. greatest_some n c f) e
 
   misses : (n : ℕ) (t : Bool) (o : Option ℕ) → p n ≡ t → (o ≡ None → (b : ℕ) → b < n → p b ≡ false) → better_if t key n o ≡ None → (b : ℕ) → b < suc n → p b ≡ false
-  misses n true None e h f b l = absurd (some_none n f)
+  misses n true None e h f b l = absurd (cc)
   misses n true (Some m) e h f b l = absurd (go (ltb (key m) (key n)) f)
     where
       go : (t : Bool) → cond t (Some n) (Some m) ≡ None → ⊥
-      go true f = some_none n f
-      go false f = some_none m f
+      go true f = absurd (cc)
+      go false f = absurd (cc)
   misses n false o e h f b l = go (cases_eq b n)
     where
       go : (b ≡ n) ⊎ (b ≡ n → ⊥) → p b ≡ false
@@ -85,7 +78,7 @@ latest_none v p e b m q =
 pub demand_law : NeedLaw demand
 demand_law = record {
   names = λ v w b e. (latest_some v (λ c. lawful v (wanted_block v) c) b e).1;
-  else_none = λ v w e b. refute (lawful v (wanted_block v) b) (λ l. latest_none v (λ c. lawful v (wanted_block v) c) e b (lawful_parts v (wanted_block v) b l).goes l);
+  else_none = λ v w e b. false_from_ne_true (lawful v (wanted_block v) b) (λ l. latest_none v (λ c. lawful v (wanted_block v) c) e b (lawful_parts v (wanted_block v) b l).goes l);
 }
 
 -- forward: the disk is that of the wanted block
@@ -93,7 +86,7 @@ forward_names : (v : View) → Wants v → v.side ≡ Forward → (b : ℕ) → 
 forward_names v w s b e = go (is_free v (get_or v.homes (wanted_block v) 0)) refl e
   where
     go : (t : Bool) → is_free v (get_or v.homes (wanted_block v) 0) ≡ t → cond t (latest v) None ≡ Some b → lawful v (wanted_block v) b ≡ true
-    go false f e = absurd (some_none b (sym e))
+    go false f e = absurd (cc)
     go true f e = four_all _ _ _ _ (lt-ltb (wanted_block v) (blocks v) w.known) w.away (latest_some v (λ c. true) b e).0 (rw s f)
 
 forward_none : (v : View) → Wants v → v.side ≡ Forward → aggressive_need Forward v ≡ None → (b : ℕ) → lawful v (wanted_block v) b ≡ true → ⊥
@@ -113,7 +106,7 @@ pub record FreeOut (v : View) (b : ℕ) : Type 0 where
 
 lowest_some : (v : View) (n d b : ℕ) → lowest_free v n d ≡ Some b → FreeOut v b
 unfolding lowest_free
-lowest_some v zero d b e = absurd (some_none b (sym e))
+lowest_some v zero d b e = absurd (cc)
 lowest_some v (suc n) d b e = go (is_free v d) refl (latest_on v d) refl (λ f. lowest_some v n (d + 1) b f) e
   where
     here : is_free v d ≡ true → (c : ℕ) → latest_on v d ≡ Some c → FreeOut v c
@@ -138,10 +131,10 @@ lowest_none v (suc n) d e b h low high =
         rest : (t : Bool) (o : Option ℕ) → or_else (cond t o None) (lowest_free v n (d + 1)) ≡ None → lowest_free v n (d + 1) ≡ None
         rest false o e = e
         rest true None e = e
-        rest true (Some c) e = absurd (some_none c e)
+        rest true (Some c) e = absurd (cc)
     go false f o g (inl i) k e = both_ways (is_free v d) f (subst (λ (x : ℕ). is_free v x ≡ true) i h.on_free)
     go true f None g (inl i) k e = latest_none v (λ x. eqb (get_or v.homes x 0) d) g b h.goes (eq-eqb (get_or v.homes b 0) d i)
-    go true f (Some c) g (inl i) k e = some_none c e
+    go true f (Some c) g (inl i) k e = absurd (cc)
 
 backward_names : (v : View) → Wants v → v.side ≡ Backward → (b : ℕ) → aggressive_need Backward v ≡ Some b → lawful v (wanted_block v) b ≡ true
 backward_names v w s b e =
@@ -149,7 +142,7 @@ backward_names v w s b e =
     four_all _ _ _ _ (lt-ltb (wanted_block v) (blocks v) w.known) w.away k.goes (rw s k.on_free)
 
 -- a disk past the list is not free
-free_known : (v : View) (d : ℕ) → is_free v d ≡ true → d < length v.free
+pub free_known : (v : View) (d : ℕ) → is_free v d ≡ true → d < length v.free
 free_known v d e = go (cases_lt d (length v.free))
   where
     go : (d < length v.free) ⊎ (length v.free ≤ d) → d < length v.free
@@ -163,7 +156,7 @@ backward_none v s e b l =
     lowest_none v (length v.free) 0 e b (record { goes = p.goes; on_free = f }) (omega arith) (omega (arith, free_known v (get_or v.homes b 0) f))
 
 pub aggressive_law : NeedLaw aggressive
-aggressive_law = record { names = λ v w b e. named v w b v.side refl e; else_none = λ v w e b. refute (lawful v (wanted_block v) b) (not_named v w b v.side refl e) }
+aggressive_law = record { names = λ v w b e. named v w b v.side refl e; else_none = λ v w e b. false_from_ne_true (lawful v (wanted_block v) b) (not_named v w b v.side refl e) }
   where
     named : (v : View) → Wants v → (b : ℕ) (z : Side) → v.side ≡ z → aggressive_need z v ≡ Some b → lawful v (wanted_block v) b ≡ true
     named v w b Forward s e = forward_names v w s b e

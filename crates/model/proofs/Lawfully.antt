@@ -12,9 +12,9 @@ use Rattle.model.proofs.Counting.{count_none}
 use Rattle.model.proofs.Marks.{Started, comings, goings, left_all, brought_all, landed_brought, none_brings, none_sends, brought_before, left_before}
 use Rattle.model.proofs.Plainly.{brought_front, left_front, landed_front}
 use Rattle.model.proofs.Seeing.{each_at, disk_late}
-use Rattle.model.proofs.Agreeing.{count_zero}
 use Rattle.model.proofs.Choosing.{four_all, lawful_parts}
 use Rattle.model.proofs.Progress.{on_disks}
+use Rattle.model.proofs.Agreeing.{carried, landed_on, all_landed}
 
 -- two conditions on a place, in one
 absent_not : (x y z : Bool) → (is_absent (cond x Place.Resident (cond y Place.Absent Place.InFlight)) && not z) ≡ true → (x ≡ false) × (y ≡ true) × (z ≡ false)
@@ -84,26 +84,8 @@ module _ (side : Side) (homes : List ℕ) (frames fetch : ℕ) (requests : List 
   out_is : (b : ℕ) → b < length homes → may_go_out v b ≡ (is_resident (cond (resident_test b) Place.Resident (cond (absent_test b) Place.Absent Place.InFlight)) && not (named_at xs t b))
   out_is b l = rw (lt-ltb b (length homes) l, place_at_lem b l, named_at_lem b l)
 
-  abbrev carried : ℕ → Exchange → Bool
-  carried d x = eqb (occupies side homes x) d && ltb t (x.start + fetch)
-
-  free_is : (d : ℕ) → d < most_disks → is_free v d ≡ eqb (count (carried d) xs) 0
+  free_is : (d : ℕ) → d < most_disks → is_free v d ≡ eqb (count (carried side homes fetch t d) xs) 0
   free_is d l = each_at (free_at side homes frames fetch requests o xs t) most_disks d false l
-
-  landed_on : (d : ℕ) → count (carried d) xs ≡ 0 → (j : ℕ) → j < length xs → occupies side homes (get_or xs j none) ≡ d → (get_or xs j none).start + fetch ≤ t
-  landed_on d e j l i = ltb-false t ((get_or xs j none).start + fetch)
-      (second (eqb (occupies side homes (get_or xs j none)) d) (ltb t ((get_or xs j none).start + fetch)) (eq-eqb (occupies side homes (get_or xs j none)) d i) (count_zero (carried d) xs e j l))
-    where
-      second : (x y : Bool) → x ≡ true → (x && y) ≡ false → y ≡ false
-      second true y e f = f
-      second false y e f = absurd (false≢true e)
-
-  all_landed : (d : ℕ) → ((j : ℕ) → j < length xs → occupies side homes (get_or xs j none) ≡ d → (get_or xs j none).start + fetch ≤ t) → count (carried d) xs ≡ 0
-  all_landed d h = count_none (carried d) xs (λ j l. off (get_or xs j none) (cases_eq (occupies side homes (get_or xs j none)) d) (h j l))
-    where
-      off : (x : Exchange) → (occupies side homes x ≡ d) ⊎ (occupies side homes x ≡ d → ⊥) → (occupies side homes x ≡ d → x.start + fetch ≤ t) → carried d x ≡ false
-      off x (inl i) k = rw (eq-eqb (occupies side homes x) d i) (le-ltb t (x.start + fetch) (k i))
-      off x (inr i) k = rw (ne_eqb (occupies side homes x) d i)
 
   said : (p q : ℕ) → lawful v p q ≡ true → Lawful side homes fetch o xs (record { brings = p; sends = q; start = t })
   said p q e =
@@ -111,14 +93,14 @@ module _ (side : Side) (homes : List ℕ) (frames fetch : ℕ) (requests : List 
       let x = absent_not (resident_test p) (absent_test p) (named_at xs t p) (sym (missing_is p k.known_in) ∙ k.comes) in
       let y = resident_not (resident_test q) (absent_test q) (named_at xs t q) (sym (out_is q k.known_out) ∙ k.goes) in
       let d : ℕ = occupies side homes (record { brings = p; sends = q; start = 0 }) in
-      let free : count (carried d) xs ≡ 0 = eqb-true (count (carried d) xs) 0 (sym (free_is d (on_disks side homes fetch fit (record { brings = p; sends = q; start = 0 }) k.known_in k.known_out)) ∙ k.on_free) in
+      let free : count (carried side homes fetch t d) xs ≡ 0 = eqb-true (count (carried side homes fetch t d) xs) 0 (sym (free_is d (on_disks side homes fetch fit (record { brings = p; sends = q; start = 0 }) k.known_in k.known_out)) ∙ k.on_free) in
       record {
         knows_in = k.known_in;
         knows_out = k.known_out;
         comes = eqb-true (home o p + brought xs p t) (left xs p t) x.1;
         alone = none_brings xs p t (not_named p x.2).0;
         goes = record { resident = eqb-true (home o q + landed fetch xs q t) (left xs q t + 1) y.0; kept = none_sends xs q t (not_named q y.1).1 };
-        disk_free = λ j l i. landed_on d free j l (i ∙ disk_late side homes p q t 0);
+        disk_free = λ j l i. landed_on side homes fetch xs t d free j l (i ∙ disk_late side homes p q t 0);
       }
 
   meant : (p q : ℕ) → Lawful side homes fetch o xs (record { brings = p; sends = q; start = t }) → lawful v p q ≡ true
@@ -129,7 +111,7 @@ module _ (side : Side) (homes : List ℕ) (frames fetch : ℕ) (requests : List 
       (un_named p (brought_before xs p t started k.alone) (left_before xs p t started (absent_stays p k.comes))))
       (out_is q k.knows_out ∙ go (resident_test q) (absent_test q) (named_at xs t q) (eq-eqb (home o q + landed fetch xs q t) (left xs q t + 1) k.goes.resident)
       (un_named q (brought_before xs q t started (resident_stays q k.goes.resident)) (left_before xs q t started k.goes.kept)))
-      (free_is d (on_disks side homes fetch fit (record { brings = p; sends = q; start = 0 }) k.knows_in k.knows_out) ∙ eq-eqb (count (carried d) xs) 0 (all_landed d (λ j l i. k.disk_free j l (i ∙ disk_late side homes p q 0 t))))
+      (free_is d (on_disks side homes fetch fit (record { brings = p; sends = q; start = 0 }) k.knows_in k.knows_out) ∙ eq-eqb (count (carried side homes fetch t d) xs) 0 (all_landed side homes fetch xs t d (λ j l i. k.disk_free j l (i ∙ disk_late side homes p q 0 t))))
     where
       not_here : home o p + landed fetch xs p t ≡ left xs p t + 1 → ⊥
       not_here e = omega (arith, k.comes, landed_brought fetch fit.lasts xs p t)

@@ -6,7 +6,7 @@ use Rattle.model.specs.Timetable.{Side, Forward, Backward, occupies}
 use Rattle.model.specs.Verdict.{Mark, Away, Here, is_away_at, is_here_at, State}
 use Rattle.model.specs.View.{Place, View, is_absent, is_resident, missing, may_go_out, lawful, is_free, disk_of, next_use, first_at}
 use Rattle.model.specs.Pass.{each, place_by, named_by, seen}
-use Rattle.model.proofs.Choosing.{lawful_parts, four_all}
+use Rattle.model.proofs.Choosing.{lawful_parts, four_all, free_known}
 
 pub each_length : {X : Type 0} (f : ℕ → X) (n : ℕ) → length (each f n) ≡ n
 unfolding each
@@ -102,11 +102,7 @@ module _ (side : Side) (homes : List ℕ) (frames fetch : ℕ) (requests : List 
   sees_free d l = get_or-map (λ f. leb f s.boundary) s.idle d 0 false l
 
   free_listed : (d : ℕ) → is_free (seen side homes frames fetch requests s) d ≡ true → d < length s.idle
-  free_listed d e = go (cases_lt d (length s.idle))
-    where
-      go : (d < length s.idle) ⊎ (length s.idle ≤ d) → d < length s.idle
-      go (inl l) = l
-      go (inr l) = absurd (both_ways (is_free (seen side homes frames fetch requests s) d) (get_or_past (map (λ f. leb f s.boundary) s.idle) d false (omega (arith, length-map s.idle (λ f. leb f s.boundary)))) e)
+  free_listed d e = omega (arith, free_known (seen side homes frames fetch requests s) d e, length-map s.idle (λ f. leb f s.boundary))
 
   pub is_free_lem : (d : ℕ) → is_free (seen side homes frames fetch requests s) d ≡ true → idle_from s d ≤ s.boundary
   is_free_lem d e = leb-true (idle_from s d) s.boundary (sym (sees_free d (free_listed d e)) ∙ e)

@@ -1,6 +1,6 @@
 -- One boundary of a pass: what is asked there, and what it comes to.
 use Rattle.std.proofs.Common.{◌≡◌, ℕ, zero, suc, ◌+◌, ◌<◌, ◌≤◌, Bool, true, false, cond, not, eqb, ltb, ◌⊎◌, List, length, get_or, sym, refl, ap, ◌∙◌, subst, inl, inr, arith}
-use Rattle.std.proofs.lemmas.Bool.{both_ways, le-leb, ltb-true, eq-eqb, not-true, cases_eq, cases_lt}
+use Rattle.std.proofs.lemmas.Bool.{both_ways, le-leb, ltb-true, eq-eqb, not-true, cases_eq, cases_lt, eqb-false}
 use Rattle.model.specs.Timetable.{Act, Side, Forward, Backward, occupies}
 use Rattle.model.specs.Verdict.{Mark, Here, is_away_at, is_here_at, State, after, most_disks}
 use Rattle.model.specs.Statements.{Fit}
@@ -11,9 +11,6 @@ use Rattle.model.proofs.Choosing.{all_four}
 use Rattle.model.proofs.Seeing.{mark, idle_from, Requested, Takes, use_requested, sees_missing, lawful_takes, takes_lawful}
 use Rattle.model.proofs.Sound.{Sound, later_sound, sound_trades, new_in, new_other, other_idle, away_is, here_is, here_away}
 use Rattle.model.proofs.Progress.{on_disks}
-
-not_eq : (a b : ℕ) → not (eqb a b) ≡ true → a ≡ b → ⊥
-not_eq a b e i = both_ways (eqb a b) (not-true (eqb a b) e) (eq-eqb a b i)
 
 module _ (side : Side) (homes : List ℕ) (frames fetch : ℕ) (requests : List ℕ) where
   -- an exchange that the pass takes from ahead
@@ -29,7 +26,7 @@ module _ (side : Side) (homes : List ℕ) (frames fetch : ℕ) (requests : List 
       record {
         takes_it = lawful_takes side homes frames fetch requests s p q k.0;
         asked = use_requested v p (ltb-true (next_use v p) (length requests) k.2);
-        other = not_eq q (wanted_block v) k.3;
+        other = eqb-false q (wanted_block v) (not-true (eqb q (wanted_block v)) k.3);
       }
 
   module _ (rule : Rule) (fit : Fit homes fetch) (o : List ℕ) (a : List Act) (t pos : ℕ) where
@@ -135,7 +132,7 @@ module _ (side : Side) (homes : List ℕ) (frames fetch : ℕ) (requests : List 
         where
           on : (y : Side) → y ≡ Forward → occupies y homes (record { brings = p; sends = q; start = x.boundary }) ≡ get_or homes p 0
           on Forward e = refl
-          on Backward e = let z : ◌≡◌ {A = ℕ} 0 1 = cc in absurd (omega arith)
+          on Backward e = absurd (cc)
 
           not_disk : get_or homes c 0 ≡ get_or homes p 0 → ⊥
           not_disk e =
@@ -195,14 +192,14 @@ module _ (side : Side) (homes : List ℕ) (frames fetch : ℕ) (requests : List 
     where
       same : (y : Side) → y ≡ Backward → occupies y homes (record { brings = p; sends = q; start = t }) ≡ occupies y homes (record { brings = c; sends = q; start = t })
       same Backward i = refl
-      same Forward i = let z : ◌≡◌ {A = ℕ} 0 1 = cc in absurd (omega arith)
+      same Forward i = absurd (cc)
 
   own_disk : side ≡ Forward → (q : ℕ) → get_or homes c 0 ≡ occupies side homes (record { brings = c; sends = q; start = t })
   own_disk z q = go side z
     where
       go : (y : Side) → y ≡ Forward → get_or homes c 0 ≡ occupies y homes (record { brings = c; sends = q; start = t })
       go Forward i = refl
-      go Backward i = let z : ◌≡◌ {A = ℕ} 0 1 = cc in absurd (omega arith)
+      go Backward i = absurd (cc)
 
   none_forward : side ≡ Forward → idle_from s (get_or homes c 0) ≤ t → is_away_at (mark s c) t ≡ true → rule.need v ≡ None → (p q : ℕ) → Ahead side homes frames fetch requests s p q → ⊥
   none_forward z i e f p q k = no_takes e f q (takes_with e q k.takes_it.known_out k.takes_it.here (subst (λ (d : ℕ). idle_from s d ≤ t) (own_disk z q) i))

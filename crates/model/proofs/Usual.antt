@@ -8,6 +8,7 @@ use Rattle.model.specs.View.{all_of}
 use Rattle.model.specs.PassLaws.{Playable, FitOpening, OpeningsTold}
 use Rattle.model.proofs.Picked.{Rising, rising_room, rising_from, rising_each, rising_pairs, picked_rises, sum_below, sum_same, sum_both, sum_none, sum_one, length_picked, home_one}
 use Rattle.model.proofs.Seeing.{each_at, each_length}
+use Rattle.model.proofs.Choosing.{all_four}
 
 -- as many numbers are in a list of different numbers below n as the list is long
 abbrev Different : ℕ → List ℕ → Type 0
@@ -148,18 +149,12 @@ usual_fits homes frames fetch requests play =
     }
 
 -- The test of an opening.
-all_three : (p q r : Bool) → all_of (p ∷ q ∷ r ∷ []) ≡ true → (p ≡ true) × (q ≡ true) × (r ≡ true)
-all_three true true true e = (refl, refl, refl)
-all_three true true false e = absurd (false≢true e)
-all_three true false r e = absurd (false≢true e)
-all_three false q r e = absurd (false≢true e)
-
 rises_each : (high : ℕ) (bs : List ℕ) (low : ℕ) → low ≤ high → rises low high bs ≡ true → Rising low high bs
 unfolding rises
 rises_each high [] low l e = l
 rises_each high (b ∷ bs) low l e =
-    let k = all_three (leb low b) (ltb b high) (rises (b + 1) high bs) e in
-    (leb-true low b k.0, rises_each high bs (b + 1) (omega (arith, ltb-true b high k.1)) k.2)
+    let k = all_four true (leb low b) (ltb b high) (rises (b + 1) high bs) e in
+    (leb-true low b k.1, rises_each high bs (b + 1) (omega (arith, ltb-true b high k.2)) k.3)
 
 each_rises : (high : ℕ) (bs : List ℕ) (low : ℕ) → Rising low high bs → rises low high bs ≡ true
 unfolding rises

@@ -13,6 +13,7 @@ use Rattle.model.proofs.Marks.{away_absent, absent_away, here_resident, resident
 use Rattle.model.proofs.Progress.{PhaseIs, Tells}
 use Rattle.model.proofs.Turns.{step_stops, over_refuses}
 use Rattle.model.proofs.Accepts.{StoppedAt, EndedAt, reads_bytes, ended_plan, ended_keeps, ended_read, ended_within}
+use Rattle.std.proofs.lemmas.Bool.Decides.{nat_tests}
 
 -- tests and rules side by side, each test passing exactly if its rule holds
 abbrev pub Matches : List Test → List Rule → Type 0
@@ -21,21 +22,15 @@ Matches [] (r ∷ rs) = ⊥
 Matches (t ∷ ts) [] = ⊥
 Matches (t ∷ ts) (r ∷ rs) = ((t.passes ≡ true → r.holds) × (r.holds → t.passes ≡ true) × (t.cause ≡ r.cause)) × Matches ts rs
 
-clean_faulty : {X : Type 0} (c : Cause) → Clean ≡ Faulty c → X
-clean_faulty c e = let z : ◌≡◌ {A = ℕ} 0 1 = cc in absurd (omega arith)
-
-same_cause : (c d : Cause) → Faulty c ≡ Faulty d → d ≡ c
-same_cause c d e = cc
-
 pub first_broken : (ts : List Test) (rs : List Rule) (c : Cause) → Matches ts rs → first ts ≡ Faulty c → FirstBroken rs c
-first_broken [] [] c m e = clean_faulty c e
+first_broken [] [] c m e = absurd (cc)
 first_broken [] (r ∷ rs) c m e = absurd m
 first_broken (t ∷ ts) [] c m e = absurd m
 first_broken (t ∷ ts) (r ∷ rs) c m e = go (λ k. first_broken ts rs c m.1 k) t.passes refl e
   where
     go : (first ts ≡ Faulty c → FirstBroken rs c) → (b : Bool) → t.passes ≡ b → cond b (first ts) (Faulty t.cause) ≡ Faulty c → ((r.holds → ⊥) × (c ≡ r.cause)) ⊎ (r.holds × FirstBroken rs c)
     go more true i k = inr (m.0.0 i, more k)
-    go more false i k = inl ((λ h. false≢true (sym i ∙ m.0.1 h)), same_cause t.cause c k ∙ m.0.2)
+    go more false i k = inl ((λ h. false≢true (sym i ∙ m.0.1 h)), cc)
 
 pub broken_first : (ts : List Test) (rs : List Rule) (c : Cause) → Matches ts rs → FirstBroken rs c → first ts ≡ Faulty c
 broken_first [] [] c m b = absurd b
@@ -50,34 +45,15 @@ broken_first (t ∷ ts) (r ∷ rs) c m b = go (λ k. broken_first ts rs c m.1 k)
     go more false i (inr k) = absurd (false≢true (sym i ∙ m.0.1 k.0))
 
 -- the limit
-nand_true : (p q : Bool) → not (p && q) ≡ true → p ≡ true → q ≡ true → ⊥
-nand_true true true h e f = false≢true h
-nand_true true false h e f = false≢true f
-nand_true false q h e f = false≢true e
-
-nand_from : (p q : Bool) → (p ≡ true → q ≡ true → ⊥) → not (p && q) ≡ true
-nand_from true true h = absurd (h refl refl)
-nand_from true false h = refl
-nand_from false q h = refl
-
 pub limit_holds : (total place n : ℕ) → within_limit total place n ≡ true → WithinLimit total place n
-limit_holds total place n h l m = nand_true (ltb plan_limit total) (ltb plan_limit (place + n)) h (lt-ltb plan_limit total l) (lt-ltb plan_limit (place + n) m)
+limit_holds total place n h l m = grind (arith, nat_tests)
 
 pub limit_passes : (total place n : ℕ) → WithinLimit total place n → within_limit total place n ≡ true
-limit_passes total place n h = nand_from (ltb plan_limit total) (ltb plan_limit (place + n)) (λ e f. h (ltb-true plan_limit total e) (ltb-true plan_limit (place + n) f))
+limit_passes total place n h = grind (arith, nat_tests)
 
 -- letters in place
-none_of : {X : Type 0} (xs : List Exchange) (j : ℕ) → xs ≡ [] → j < length xs → X
-none_of xs j e l = absurd (never (subst (λ (ys : List Exchange). j < length ys) e l))
-  where
-    never : j < 0 → ⊥
-    never i = omega arith
-
-no_acts : {X : Type 0} (a : List Act) → a ≡ [] → 0 < length a → X
-no_acts a e l = absurd (never (subst (λ (v : List Act). 0 < length v) e l))
-  where
-    never : 0 < 0 → ⊥
-    never i = omega arith
+none_of : {A X : Type 0} (xs : List A) (j : ℕ) → xs ≡ [] → j < length xs → X
+none_of xs j e l = absurd (omega (arith, ap length e))
 
 place_holds : (ph : Phase) (a : List Act) (xs : List Exchange) → PhaseIs ph a xs → (c : Command) → in_place ph c ≡ true → InPlace a xs c
 place_holds Filling a xs h (Opens b) e = h
@@ -95,7 +71,7 @@ place_holds Over a xs h Ends e = absurd (false≢true e)
 pub place_passes : (ph : Phase) (a : List Act) (xs : List Exchange) → is_over ph ≡ false → PhaseIs ph a xs → (c : Command) → InPlace a xs c → in_place ph c ≡ true
 place_passes Filling a xs o h c i = refl
 place_passes Over a xs o h c i = absurd (false≢true (sym o))
-place_passes Standing a xs o h (Opens b) i = no_acts a i.0 h.1
+place_passes Standing a xs o h (Opens b) i = none_of a 0 i.0 h.1
 place_passes Standing a xs o h (Trades p q) i = refl
 place_passes Standing a xs o h Serves i = refl
 place_passes Standing a xs o h Waits i = refl

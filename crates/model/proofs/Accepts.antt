@@ -9,7 +9,7 @@ use Rattle.model.specs.PlanBytes.{Command, Opens, Trades, Serves, Waits, Ends, c
 use Rattle.model.specs.Verdict.{Accepted, Outcome, Cause, State, Phase, Filling, Standing, Starting, Over, is_over, in_place, Known, size, Turn, Goes, Stops, step, run, onward, after, accepted, refused, within_limit, begin, verdict, Away, tests_of}
 use Rattle.model.specs.Statements.{Fit, WrittenBy, plan_outcome}
 use Rattle.model.proofs.Counting.{served_append}
-use Rattle.model.proofs.Marks.{Started, here_resident, landed_late, left_late}
+use Rattle.model.proofs.Marks.{Started, here_resident, landed_late, early_late, out_of}
 use Rattle.model.proofs.Progress.{PhaseIs, Tells, tells_begin, tells_opens, tells_trades, tells_serves, tells_waits, lawful_from, each_push}
 use Rattle.model.proofs.Reading.{Bytes, AllPass, reads_back, size_some}
 use Rattle.model.proofs.Writing.{so_far_none, so_far_opens, so_far_trades, so_far_act, so_far_ends}
@@ -69,7 +69,7 @@ module _ (side : Side) (homes : List ℕ) (fetch : ℕ) (requests : List ℕ) wh
       after = subst (λ (ys : List Exchange). Lawful side homes fetch o ys x) (sym (take_at xs (x ∷ []) (length xs) refl)) law
 
       during : (b t : ℕ) → t < length a → ResidentDuring fetch o xs b t → ResidentDuring fetch o (xs ++ (x ∷ [])) b t
-      during b t l r = omega (arith, landed_late xs x b fetch t (omega arith), left_late xs x b (t + 1) (omega arith))
+      during b t l r = omega (arith, landed_late xs x b fetch t (omega arith), early_late out_of xs x b (t + 1) (omega arith))
 
   pub sofar_act : (o : List ℕ) (a : List Act) (xs : List Exchange) (act : Act) → Sofar side homes fetch requests o a xs →
       (act ≡ Serve → ResidentDuring fetch o xs (get_or requests (served a) 0) (length a)) → Sofar side homes fetch requests o (a ++ (act ∷ [])) xs

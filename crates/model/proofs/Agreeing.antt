@@ -8,7 +8,7 @@ use Rattle.model.specs.View.{Place}
 use Rattle.model.specs.Pass.{each, place_by, named_by, seen}
 use Rattle.model.specs.Follows.{place_at, named_at, free_at, view_at}
 use Rattle.model.proofs.Counting.{count_same, count_none}
-use Rattle.model.proofs.Marks.{Started, MarkIs, HereFrom, comings, goings, left_all, brought_all, landed_brought, brought_comings}
+use Rattle.model.proofs.Marks.{Started, MarkIs, HereFrom, comings, goings, early_all, out_of, in_of, landed_brought, early_some}
 use Rattle.model.proofs.Progress.{Tells}
 use Rattle.model.proofs.Seeing.{mark, idle_from, each_at, each_length}
 use Rattle.model.proofs.Steady.{landed_started}
@@ -71,7 +71,7 @@ module _ (fetch : ℕ) (lasts : 0 < fetch) (o : List ℕ) (xs : List Exchange) (
 
   -- by counts: named exactly if not all was brought in, or not all sent out, before
   named_counts : (x y : Bool) → eqb (brought xs b t) (comings xs b) ≡ x → eqb (left xs b t) (goings xs b) ≡ y → named_at xs t b ≡ not (x && y)
-  named_counts x y e f = rw (brought_all xs b t started, left_all xs b t started, e, f)
+  named_counts x y e f = rw (early_all in_of xs b t started, early_all out_of xs b t started, e, f)
 
   named_same : (m : Mark) → MarkIs fetch o xs t b m → ((l : ℕ) → m ≡ Here l → l ≤ t + fetch) → named_by fetch t m ≡ named_at xs t b
   named_same (Away g) h top = go (leb g t) refl
@@ -91,7 +91,7 @@ module _ (fetch : ℕ) (lasts : 0 < fetch) (o : List ℕ) (xs : List Exchange) (
       stays = eq-eqb (left xs b t) (goings xs b) h.stays
 
       go : (x : Bool) → leb l t ≡ x → (y : Bool) → eqb l (t + fetch) ≡ y → (not x && y) ≡ named_at xs t b
-      go true e y f = sym (named_counts true true (eq-eqb (brought xs b t) (comings xs b) (omega (arith, h.lands t (omega arith) (leb-true l t e), landed_brought fetch lasts xs b t, brought_comings xs b t))) stays)
+      go true e y f = sym (named_counts true true (eq-eqb (brought xs b t) (comings xs b) (omega (arith, h.lands t (omega arith) (leb-true l t e), landed_brought fetch lasts xs b t, early_some in_of xs b t))) stays)
       go false e true f = sym (named_counts false true (ne_eqb (brought xs b t) (comings xs b) off) stays)
         where
           off : brought xs b t ≡ comings xs b → ⊥

@@ -9,8 +9,8 @@ use Rattle.model.specs.View.{Place, is_absent, is_resident, View, missing, may_g
 use Rattle.model.specs.Follows.{place_at, named_at, free_at, view_at}
 use Rattle.model.specs.ViewLaws.{LawfulExact}
 use Rattle.model.proofs.Counting.{count_none}
-use Rattle.model.proofs.Marks.{Started, comings, goings, left_all, brought_all, landed_brought, none_brings, none_sends, brought_before, left_before}
-use Rattle.model.proofs.Plainly.{brought_front, left_front, landed_front}
+use Rattle.model.proofs.Marks.{Started, comings, goings, early_all, out_of, in_of, landed_brought, early_none, early_before}
+use Rattle.model.proofs.Plainly.{early_front, landed_front}
 use Rattle.model.proofs.Seeing.{each_at, disk_late}
 use Rattle.model.proofs.Choosing.{four_all, lawful_parts}
 use Rattle.model.proofs.Progress.{on_disks}
@@ -44,26 +44,26 @@ module _ (side : Side) (homes : List ℕ) (frames fetch : ℕ) (requests : List 
   not_named : (b : ℕ) → named_at xs t b ≡ false → (brought xs b t ≡ comings xs b) × (left xs b t ≡ goings xs b)
   not_named b e =
       let k = and_parts (eqb (brought xs b t) (brought xs b (t + 1))) (eqb (left xs b t) (left xs b (t + 1))) (not-false (eqb (brought xs b t) (brought xs b (t + 1)) && eqb (left xs b t) (left xs b (t + 1))) e) in
-      (eqb-true (brought xs b t) (brought xs b (t + 1)) k.0 ∙ brought_all xs b t started, eqb-true (left xs b t) (left xs b (t + 1)) k.1 ∙ left_all xs b t started)
+      (eqb-true (brought xs b t) (brought xs b (t + 1)) k.0 ∙ early_all in_of xs b t started, eqb-true (left xs b t) (left xs b (t + 1)) k.1 ∙ early_all out_of xs b t started)
 
   un_named : (b : ℕ) → brought xs b t ≡ comings xs b → left xs b t ≡ goings xs b → named_at xs t b ≡ false
   un_named b e f = ap not (and_from (eqb (brought xs b t) (brought xs b (t + 1))) (eqb (left xs b t) (left xs b (t + 1)))
-      (eq-eqb (brought xs b t) (brought xs b (t + 1)) (e ∙ sym (brought_all xs b t started)))
-      (eq-eqb (left xs b t) (left xs b (t + 1)) (f ∙ sym (left_all xs b t started))))
+      (eq-eqb (brought xs b t) (brought xs b (t + 1)) (e ∙ sym (early_all in_of xs b t started)))
+      (eq-eqb (left xs b t) (left xs b (t + 1)) (f ∙ sym (early_all out_of xs b t started))))
 
   -- an absent block was not sent out at this boundary, a resident one not brought in
   absent_stays : (b : ℕ) → Absent o xs b t → (j : ℕ) → j < length xs → (get_or xs j none).start ≡ t → (get_or xs j none).sends ≡ b → ⊥
   absent_stays b e j l i k =
       let r : Resident fetch o (take j xs) b t = subst (λ (c : ℕ). Resident fetch o (take j xs) c t) k (subst (λ (n : ℕ). Resident fetch o (take j xs) (get_or xs j none).sends n) i (keeps.lawful j l).goes.resident) in
       let p : landed fetch (take j xs) b t ≡ landed fetch xs b t = subst (λ (n : ℕ). landed fetch (take j xs) b n ≡ landed fetch xs b n) i (landed_front xs keeps.in_order j l fetch fit.lasts b) in
-      let q : left (take j xs) b t ≡ left xs b t = subst (λ (n : ℕ). left (take j xs) b n ≡ left xs b n) i (left_front xs keeps.in_order j l b) in
+      let q : left (take j xs) b t ≡ left xs b t = subst (λ (n : ℕ). left (take j xs) b n ≡ left xs b n) i (early_front xs keeps.in_order j l out_of b) in
       omega (arith, landed_brought fetch fit.lasts xs b t)
 
   resident_stays : (b : ℕ) → Resident fetch o xs b t → (j : ℕ) → j < length xs → (get_or xs j none).start ≡ t → (get_or xs j none).brings ≡ b → ⊥
   resident_stays b e j l i k =
       let r : Absent o (take j xs) b t = subst (λ (c : ℕ). Absent o (take j xs) c t) k (subst (λ (n : ℕ). Absent o (take j xs) (get_or xs j none).brings n) i (keeps.lawful j l).comes) in
-      let p : brought (take j xs) b t ≡ brought xs b t = subst (λ (n : ℕ). brought (take j xs) b n ≡ brought xs b n) i (brought_front xs keeps.in_order j l b) in
-      let q : left (take j xs) b t ≡ left xs b t = subst (λ (n : ℕ). left (take j xs) b n ≡ left xs b n) i (left_front xs keeps.in_order j l b) in
+      let p : brought (take j xs) b t ≡ brought xs b t = subst (λ (n : ℕ). brought (take j xs) b n ≡ brought xs b n) i (early_front xs keeps.in_order j l in_of b) in
+      let q : left (take j xs) b t ≡ left xs b t = subst (λ (n : ℕ). left (take j xs) b n ≡ left xs b n) i (early_front xs keeps.in_order j l out_of b) in
       omega (arith, landed_brought fetch fit.lasts xs b t)
 
   place_at_lem : (b : ℕ) → b < length homes → get_or v.places b Place.Absent ≡ place_at fetch o xs t b
@@ -98,8 +98,8 @@ module _ (side : Side) (homes : List ℕ) (frames fetch : ℕ) (requests : List 
         knows_in = k.known_in;
         knows_out = k.known_out;
         comes = eqb-true (home o p + brought xs p t) (left xs p t) x.1;
-        alone = none_brings xs p t (not_named p x.2).0;
-        goes = record { resident = eqb-true (home o q + landed fetch xs q t) (left xs q t + 1) y.0; kept = none_sends xs q t (not_named q y.1).1 };
+        alone = early_none in_of xs p t (not_named p x.2).0;
+        goes = record { resident = eqb-true (home o q + landed fetch xs q t) (left xs q t + 1) y.0; kept = early_none out_of xs q t (not_named q y.1).1 };
         disk_free = λ j l i. landed_on side homes fetch xs t d free j l (i ∙ disk_late side homes p q t 0);
       }
 
@@ -108,9 +108,9 @@ module _ (side : Side) (homes : List ℕ) (frames fetch : ℕ) (requests : List 
       let d : ℕ = occupies side homes (record { brings = p; sends = q; start = 0 }) in
       four_all _ _ _ _ (lt-ltb p (length homes) k.knows_in)
       (missing_is p k.knows_in ∙ come (resident_test p) (absent_test p) (named_at xs t p) (ne_eqb (home o p + landed fetch xs p t) (left xs p t + 1) not_here) (eq-eqb (home o p + brought xs p t) (left xs p t) k.comes)
-      (un_named p (brought_before xs p t started k.alone) (left_before xs p t started (absent_stays p k.comes))))
+      (un_named p (early_before in_of xs p t started k.alone) (early_before out_of xs p t started (absent_stays p k.comes))))
       (out_is q k.knows_out ∙ go (resident_test q) (absent_test q) (named_at xs t q) (eq-eqb (home o q + landed fetch xs q t) (left xs q t + 1) k.goes.resident)
-      (un_named q (brought_before xs q t started (resident_stays q k.goes.resident)) (left_before xs q t started k.goes.kept)))
+      (un_named q (early_before in_of xs q t started (resident_stays q k.goes.resident)) (early_before out_of xs q t started k.goes.kept)))
       (free_is d (on_disks side homes fetch fit (record { brings = p; sends = q; start = 0 }) k.knows_in k.knows_out) ∙ eq-eqb (count (carried side homes fetch t d) xs) 0 (all_landed side homes fetch xs t d (λ j l i. k.disk_free j l (i ∙ disk_late side homes p q 0 t))))
     where
       not_here : home o p + landed fetch xs p t ≡ left xs p t + 1 → ⊥

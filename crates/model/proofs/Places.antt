@@ -5,8 +5,8 @@ use Rattle.std.proofs.lemmas.Bool.{eqb-true, ltb-true, lt-ltb, leb-true, le-leb,
 use Rattle.model.specs.Timetable.{Exchange, none, Side, Plan, Keeps, Lawful, Resident, InFlight, Absent, home, landed, brought, left, count, bit, one_or}
 use Rattle.model.specs.Statements.{OnePlace}
 use Rattle.model.proofs.Counting.{count_push, count_le}
-use Rattle.model.proofs.Marks.{Started, brought_before, left_before, brought_comings, left_goings, landed_brought, bit_and}
-use Rattle.model.proofs.Steady.{steady, left_rises, brought_rises}
+use Rattle.model.proofs.Marks.{Started, early_before, in_of, out_of, early_some, landed_brought, early_grows}
+use Rattle.model.proofs.Steady.{steady}
 
 -- left, landed and brought stay within one of each other
 pub record Chained (fetch : ℕ) (o : List ℕ) (xs : List Exchange) (b t : ℕ) : Type 0 where
@@ -16,7 +16,7 @@ pub record Chained (fetch : ℕ) (o : List ℕ) (xs : List Exchange) (b t : ℕ)
 pub chained : (side : Side) (homes : List ℕ) (frames fetch : ℕ) (requests : List ℕ) (plan : Plan) → Keeps side homes frames fetch requests plan → (b t : ℕ) → Chained fetch plan.opening plan.exchanges b t
 chained side homes frames fetch requests plan k b t =
     let s = steady side homes frames fetch requests plan k b t in
-    record { low = omega (arith, s.goes_after, left_rises plan.exchanges b t (t + 1) (omega arith)); high = omega (arith, s.comes_after, brought_rises plan.exchanges b t (t + 1) (omega arith)) }
+    record { low = omega (arith, s.goes_after, early_grows out_of plan.exchanges b t (t + 1) (omega arith)); high = omega (arith, s.comes_after, early_grows in_of plan.exchanges b t (t + 1) (omega arith)) }
 
 pub one_place : OnePlace
 one_place side homes frames fetch requests plan f k b t =

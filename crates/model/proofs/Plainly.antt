@@ -6,6 +6,7 @@ use Rattle.model.specs.Timetable.{Exchange, none, Keeps, KeepsPlainly, landed, b
 use Rattle.model.specs.Statements.{PlainReading}
 use Rattle.model.proofs.Counting.{count_append, count_none}
 use Rattle.model.proofs.Gather.{Ordered}
+use Rattle.model.proofs.Marks.{in_of, out_of, early}
 
 -- a test that no later exchange passes counts the same over the front
 count_front : (p : Exchange → Bool) (xs : List Exchange) (i : ℕ) → ((j : ℕ) → i ≤ j → j < length xs → p (get_or xs j none) ≡ false) → count p (take i xs) ≡ count p xs
@@ -23,13 +24,9 @@ module _ (xs : List Exchange) (ordered : Ordered xs) (i : ℕ) (l : i < length x
       go (inl e) = omega (arith, ap (λ (n : ℕ). (get_or xs n none).start) e)
       go (inr e) = let m : i < j = omega arith in ordered i j m k
 
-  pub brought_front : (b : ℕ) → brought (take i xs) b (get_or xs i none).start ≡ brought xs b (get_or xs i none).start
-  brought_front b = count_front (λ x. eqb x.brings b && ltb x.start (get_or xs i none).start) xs i
-      (λ j h k. and_right (eqb (get_or xs j none).brings b) (ltb (get_or xs j none).start (get_or xs i none).start) (le-ltb (get_or xs j none).start (get_or xs i none).start (from_here j h k)))
-
-  pub left_front : (b : ℕ) → left (take i xs) b (get_or xs i none).start ≡ left xs b (get_or xs i none).start
-  left_front b = count_front (λ x. eqb x.sends b && ltb x.start (get_or xs i none).start) xs i
-      (λ j h k. and_right (eqb (get_or xs j none).sends b) (ltb (get_or xs j none).start (get_or xs i none).start) (le-ltb (get_or xs j none).start (get_or xs i none).start (from_here j h k)))
+  pub early_front : (f : Exchange → ℕ) (b : ℕ) → early f (take i xs) b (get_or xs i none).start ≡ early f xs b (get_or xs i none).start
+  early_front f b = count_front (λ x. eqb (f x) b && ltb x.start (get_or xs i none).start) xs i
+      (λ j h k. and_right (eqb (f (get_or xs j none)) b) (ltb (get_or xs j none).start (get_or xs i none).start) (le-ltb (get_or xs j none).start (get_or xs i none).start (from_here j h k)))
 
   pub landed_front : (fetch : ℕ) → 0 < fetch → (b : ℕ) → landed fetch (take i xs) b (get_or xs i none).start ≡ landed fetch xs b (get_or xs i none).start
   landed_front fetch f b = count_front (λ x. eqb x.brings b && leb (x.start + fetch) (get_or xs i none).start) xs i
@@ -60,8 +57,8 @@ plain_reading side homes frames fetch requests plan f = (there, back)
           in_order = k.in_order;
           knows_in = λ i l. (k.lawful i l).knows_in;
           knows_out = λ i l. (k.lawful i l).knows_out;
-          comes = λ i l. omega (arith, (k.lawful i l).comes, brought_front xs k.in_order i l (x i).brings, left_front xs k.in_order i l (x i).brings);
-          goes = λ i l. omega (arith, (k.lawful i l).goes.resident, landed_front xs k.in_order i l fetch f (x i).sends, left_front xs k.in_order i l (x i).sends);
+          comes = λ i l. omega (arith, (k.lawful i l).comes, early_front xs k.in_order i l in_of (x i).brings, early_front xs k.in_order i l out_of (x i).brings);
+          goes = λ i l. omega (arith, (k.lawful i l).goes.resident, landed_front xs k.in_order i l fetch f (x i).sends, early_front xs k.in_order i l out_of (x i).sends);
           ins_differ = λ i j m l. front_each xs k.in_order j l (λ y. y.start ≡ (x j).start → y.brings ≡ (x j).brings → ⊥) (k.lawful j l).alone i m;
           outs_differ = λ i j m l. front_each xs k.in_order j l (λ y. y.start ≡ (x j).start → y.sends ≡ (x j).sends → ⊥) (k.lawful j l).goes.kept i m;
           apart = λ i j m l. front_each xs k.in_order j l (λ y. occupies side homes y ≡ occupies side homes (x j) → y.start + fetch ≤ (x j).start) (k.lawful j l).disk_free i m;
@@ -80,10 +77,10 @@ plain_reading side homes frames fetch requests plan f = (there, back)
           lawful = λ j l. record {
             knows_in = k.knows_in j l;
             knows_out = k.knows_out j l;
-            comes = omega (arith, k.comes j l, brought_front xs k.in_order j l (x j).brings, left_front xs k.in_order j l (x j).brings);
+            comes = omega (arith, k.comes j l, early_front xs k.in_order j l in_of (x j).brings, early_front xs k.in_order j l out_of (x j).brings);
             alone = each_front_of xs k.in_order j l (λ y. y.start ≡ (x j).start → y.brings ≡ (x j).brings → ⊥) (λ i m. k.ins_differ i j m l);
             goes = record {
-              resident = omega (arith, k.goes j l, landed_front xs k.in_order j l fetch f (x j).sends, left_front xs k.in_order j l (x j).sends);
+              resident = omega (arith, k.goes j l, landed_front xs k.in_order j l fetch f (x j).sends, early_front xs k.in_order j l out_of (x j).sends);
               kept = each_front_of xs k.in_order j l (λ y. y.start ≡ (x j).start → y.sends ≡ (x j).sends → ⊥) (λ i m. k.outs_differ i j m l);
             };
             disk_free = each_front_of xs k.in_order j l (λ y. occupies side homes y ≡ occupies side homes (x j) → y.start + fetch ≤ (x j).start) (λ i m. k.apart i j m l);

@@ -7,7 +7,7 @@ use Rattle.model.specs.PlanBytes.{Opens, Trades, Serves, Waits, Ends}
 use Rattle.model.specs.Verdict.{Mark, Here, Away, is_here_at, is_away_at, State, Phase, Filling, Standing, Starting, Over, begin, blank_marks, blank_idle, after, most_blocks, most_disks}
 use Rattle.model.specs.Statements.{Fit}
 use Rattle.model.proofs.Counting.{home_push_same, home_push_other, served_append, waited_append}
-use Rattle.model.proofs.Marks.{Started, MarkIs, HereFrom, AwayFrom, mark_step, mark_other, mark_in, mark_out, away_absent, absent_away, here_resident, resident_here, still_resident, none_brings, none_sends, brought_before, left_before}
+use Rattle.model.proofs.Marks.{Started, MarkIs, HereFrom, AwayFrom, mark_step, mark_other, mark_in, mark_out, away_absent, absent_away, here_resident, resident_here, still_resident, early_none, in_of, out_of, early_before}
 
 -- what the phase says of acts and exchanges
 abbrev pub PhaseIs : Phase → List Act → List Exchange → Type 0
@@ -159,17 +159,17 @@ module _ (side : Side) (homes : List ℕ) (frames fetch : ℕ) (requests : List 
           knows_in = kp;
           knows_out = kq;
           comes = c.0;
-          alone = none_brings xs p s.boundary c.1;
-          goes = record { resident = g.0; kept = none_sends xs q s.boundary g.1 };
+          alone = early_none in_of xs p s.boundary c.1;
+          goes = record { resident = g.0; kept = early_none out_of xs q s.boundary g.1 };
           disk_free = λ j l i. omega (arith, h.idle_over j l, ap (λ (d : ℕ). get_or s.idle d 0) i);
         }
 
     pub lawful_tests : Lawful side homes fetch o xs fresh →
         (is_away_at (get_or s.marks p (Away 0)) s.boundary ≡ true) × (is_here_at (get_or s.marks q (Away 0)) s.boundary ≡ true) × (get_or s.idle (occupies side homes fresh) 0 ≤ s.boundary)
     lawful_tests k = (
-      absent_away fetch o xs s.boundary p (get_or s.marks p (Away 0)) (h.marks p) k.comes (brought_before xs p s.boundary h.started k.alone),
+      absent_away fetch o xs s.boundary p (get_or s.marks p (Away 0)) (h.marks p) k.comes (early_before in_of xs p s.boundary h.started k.alone),
       resident_here fetch fit.lasts o xs s.boundary q (get_or s.marks q (Away 0)) h.started (h.marks q)
-          (still_resident fetch o xs s.boundary q h.started k.goes.resident (left_before xs q s.boundary h.started k.goes.kept)),
+          (still_resident fetch o xs s.boundary q h.started k.goes.resident (early_before out_of xs q s.boundary h.started k.goes.kept)),
       h.idle_low (occupies side homes fresh) s.boundary k.disk_free,
     )
 

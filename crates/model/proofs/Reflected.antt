@@ -5,11 +5,11 @@ use Rattle.std.proofs.lemmas.Bool.{ne_eqb, eq-eqb, lt-ltb, le-ltb, le-leb, lt-le
 use Rattle.model.specs.Timetable.{Exchange, none, Side, Plan, Keeps, KeepsPlainly, home, landed, brought, left, count, bit}
 use Rattle.model.specs.Mirror.{remains, closing, reflected}
 use Rattle.model.proofs.Counting.{count_push, count_same, count_none, count_split, same_reversed, count_append}
-use Rattle.model.proofs.Marks.{comings, goings, landed_brought, and_on}
+use Rattle.model.proofs.Marks.{comings, goings, landed_brought, early_grows, in_of, out_of, early_before}
 use Rattle.model.proofs.Plainly.{plain_reading}
 use Rattle.model.proofs.Places.{Chained, chained}
 use Rattle.model.proofs.Picked.{Rising, rising_from, picked_rises, home_picked, home_picked_past, home_above, sum_below, sum_same, sum_both, sum_none, sum_one, length_rising}
-use Rattle.model.proofs.Steady.{Steady, steady, left_rises, brought_rises, left_more, brought_more, landed_started}
+use Rattle.model.proofs.Steady.{Steady, steady, early_counts, landed_started}
 use Rattle.std.proofs.lemmas.Bool.Decides.{nat_tests}
 
 -- Counting over a list of images.
@@ -85,7 +85,7 @@ module _ (side : Side) (homes : List ℕ) (frames fetch : ℕ) (requests : List 
       let xs : List Exchange = plan.exchanges in
       let b : ℕ = (get_or xs j none).sends in
       let s : ℕ = (get_or xs j none).start in
-      omega (arith, plainly.goes j l, left_more xs j l, (steadily b s).goes_after, (steadily b s).comes_after, landed_started fetch xs b (s + 1) (s + fetch) (omega arith), landed_brought fetch f xs b s, brought_rises xs b s (s + 1) (omega arith))
+      omega (arith, plainly.goes j l, early_counts out_of xs j l, (steadily b s).goes_after, (steadily b s).comes_after, landed_started fetch xs b (s + 1) (s + fetch) (omega arith), landed_brought fetch f xs b s, early_grows in_of xs b s (s + 1) (omega arith))
 
   -- a block brought in has not been sent out when the exchange lands
   pub here_when : (j : ℕ) → j < length plan.exchanges →
@@ -98,16 +98,14 @@ module _ (side : Side) (homes : List ℕ) (frames fetch : ℕ) (requests : List 
       let u : ℕ = s + fetch - 1 in
       let up : u + 1 ≡ s + fetch = omega arith in
       let same : left xs b (u + 1) ≡ left xs b (s + fetch) = ap (λ (t : ℕ). left xs b t) up in
-      omega (arith, same, plainly.comes j l, brought_more xs j l, (steadily b s).comes_after, (steadily b u).goes_after, landed_started fetch xs b s u up, landed_started fetch xs b (s + 1) (s + fetch) (omega arith), left_rises xs b s (s + fetch) (omega arith))
+      omega (arith, same, plainly.comes j l, early_counts in_of xs j l, (steadily b s).comes_after, (steadily b u).goes_after, landed_started fetch xs b s u up, landed_started fetch xs b (s + 1) (s + fetch) (omega arith), early_grows out_of xs b s (s + fetch) (omega arith))
 
   -- all have landed, and all have gone, by the last boundary
-  pub landed_last : (b : ℕ) → landed fetch plan.exchanges b (length plan.acts) ≡ comings plan.exchanges b
-  landed_last b = count_same (λ x. eqb x.brings b && leb (x.start + fetch) (length plan.acts)) (λ x. eqb x.brings b) plan.exchanges
-      (λ j l. and_on (eqb (get_or plan.exchanges j none).brings b) (leb ((get_or plan.exchanges j none).start + fetch) (length plan.acts)) (le-leb ((get_or plan.exchanges j none).start + fetch) (length plan.acts) (k.all_land j l)))
+  landed_last : (b : ℕ) → landed fetch plan.exchanges b (length plan.acts) ≡ comings plan.exchanges b
+  landed_last b = count_same (λ x. eqb x.brings b && leb (x.start + fetch) (length plan.acts)) (λ x. eqb x.brings b) plan.exchanges (λ j l. let m = k.all_land j l in grind (arith, nat_tests))
 
-  pub left_last : (b : ℕ) → left plan.exchanges b (length plan.acts) ≡ goings plan.exchanges b
-  left_last b = count_same (λ x. eqb x.sends b && ltb x.start (length plan.acts)) (λ x. eqb x.sends b) plan.exchanges
-      (λ j l. and_on (eqb (get_or plan.exchanges j none).sends b) (ltb (get_or plan.exchanges j none).start (length plan.acts)) (lt-ltb (get_or plan.exchanges j none).start (length plan.acts) (omega (arith, k.all_land j l))))
+  left_last : (b : ℕ) → left plan.exchanges b (length plan.acts) ≡ goings plan.exchanges b
+  left_last b = early_before out_of plan.exchanges b (length plan.acts) (λ j l. omega (arith, k.all_land j l)) (λ j l e g. omega (arith, k.all_land j l))
 
   pub opening_rises : Rising 0 (length homes) plan.opening
   opening_rises = rising_from 0 (length homes) plan.opening (omega arith) (λ i l. omega arith) k.exist k.rise

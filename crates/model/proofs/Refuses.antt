@@ -9,7 +9,7 @@ use Rattle.model.specs.Verdict
 use Rattle.model.specs.Verdict.{Refused, Outcome, Cause, OutOfPlace, OverLimit, State, Phase, Filling, Standing, Starting, Over, is_over, in_place, Found, Missing, Strange, Known, found, size, Test, Clean, Faulty, first, within_limit, own_tests, tests_of, place_of, verdict, after, Away}
 use Rattle.model.specs.Refusals.{Rule, rule, FirstBroken, WithinLimit, InPlace, rules_of, rules_at, RefusedAt, RefusedAfter}
 use Rattle.model.specs.Statements.{Fit, refused_with}
-use Rattle.model.proofs.Marks.{away_absent, absent_away, here_resident, resident_here, still_resident, none_brings, none_sends, brought_before, left_before}
+use Rattle.model.proofs.Marks.{away_absent, absent_away, here_resident, resident_here, still_resident, early_none, in_of, out_of, early_before}
 use Rattle.model.proofs.Progress.{PhaseIs, Tells}
 use Rattle.model.proofs.Turns.{step_stops, over_refuses}
 use Rattle.model.proofs.Accepts.{StoppedAt, EndedAt, reads_bytes, ended_plan, ended_keeps, ended_read, ended_within}
@@ -110,17 +110,17 @@ module _ (side : Side) (homes : List ℕ) (frames fetch : ℕ) (requests : List 
       ((λ e. ltb-true p (length homes) e), (λ l. lt-ltb p (length homes) l), refl),
       (
         (
-          (λ e. at_boundary (Comes p) (let c = away_absent fetch o xs s.boundary p (get_or s.marks p (Away 0)) (h.marks p) e in (c.0, none_brings xs p s.boundary c.1))),
-          (λ k. let v : Comes p s.boundary = at_state (Comes p) k in absent_away fetch o xs s.boundary p (get_or s.marks p (Away 0)) (h.marks p) v.0 (brought_before xs p s.boundary h.started v.1)),
+          (λ e. at_boundary (Comes p) (let c = away_absent fetch o xs s.boundary p (get_or s.marks p (Away 0)) (h.marks p) e in (c.0, early_none in_of xs p s.boundary c.1))),
+          (λ k. let v : Comes p s.boundary = at_state (Comes p) k in absent_away fetch o xs s.boundary p (get_or s.marks p (Away 0)) (h.marks p) v.0 (early_before in_of xs p s.boundary h.started v.1)),
           refl,
         ),
         (
           ((λ e. ltb-true q (length homes) e), (λ l. lt-ltb q (length homes) l), refl),
           (
             (
-              (λ e. at_boundary (λ t. MayGoOut fetch o xs q t) (let c = here_resident fetch o xs s.boundary q (get_or s.marks q (Away 0)) h.started (h.marks q) e in record { resident = c.0; kept = none_sends xs q s.boundary c.1 })),
+              (λ e. at_boundary (λ t. MayGoOut fetch o xs q t) (let c = here_resident fetch o xs s.boundary q (get_or s.marks q (Away 0)) h.started (h.marks q) e in record { resident = c.0; kept = early_none out_of xs q s.boundary c.1 })),
               (λ k. let v : MayGoOut fetch o xs q s.boundary = at_state (λ t. MayGoOut fetch o xs q t) k in
-                  resident_here fetch fit.lasts o xs s.boundary q (get_or s.marks q (Away 0)) h.started (h.marks q) (still_resident fetch o xs s.boundary q h.started v.resident (left_before xs q s.boundary h.started v.kept))),
+                  resident_here fetch fit.lasts o xs s.boundary q (get_or s.marks q (Away 0)) h.started (h.marks q) (still_resident fetch o xs s.boundary q h.started v.resident (early_before out_of xs q s.boundary h.started v.kept))),
               refl,
             ),
             (

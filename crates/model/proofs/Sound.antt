@@ -7,7 +7,7 @@ use Rattle.model.specs.PlanBytes.{Serves, Waits}
 use Rattle.model.specs.Verdict.{Mark, Away, Here, is_away_at, is_here_at, State, after, most_disks}
 use Rattle.model.specs.Statements.{Fit}
 use Rattle.model.specs.Pass.{starts}
-use Rattle.model.proofs.Marks.{Started, here_resident, landed_late, left_late}
+use Rattle.model.proofs.Marks.{Started, here_resident, landed_late, early_late, out_of}
 use Rattle.model.proofs.Progress.{Tells, tells_trades, tells_serves, tells_waits, lawful_from, each_push, on_disks}
 use Rattle.model.proofs.Accepts.{Sofar, sofar_trades, sofar_act}
 use Rattle.model.proofs.Seeing.{mark, idle_from, Requested, Takes}

@@ -5,23 +5,14 @@ use Rattle.std.proofs.lemmas.List.{take_more, take_all, length-take-le, get_or-t
 use Rattle.std.proofs.lemmas.Bool.{eqb-true, eq-eqb, ltb-true, lt-ltb, le-ltb, leb-true, le-leb, lt-leb, cases_lt, and_right, and_from}
 use Rattle.model.specs.Timetable.{Exchange, none, Side, Plan, Keeps, Lawful, home, landed, brought, left, count, bit}
 use Rattle.model.proofs.Counting.{count_push, count_same, count_le, count_tight}
-use Rattle.model.proofs.Marks.{Started, brought_before, left_before, brought_comings, left_goings, bit_and}
+use Rattle.model.proofs.Marks.{Started, early_before, in_of, out_of, early_some, early, early_grows}
 use Rattle.model.proofs.Picked.{home_one}
 use Rattle.std.proofs.lemmas.Bool.Decides.{nat_tests}
 use Rattle.std.proofs.Math.Seq.{take-suc}
 
--- a count up to a boundary grows with the boundary
-pub left_rises : (xs : List Exchange) (b t u : ℕ) → t ≤ u → left xs b t ≤ left xs b u
-left_rises xs b t u h = count_le (λ x. eqb x.sends b && ltb x.start t) (λ x. eqb x.sends b && ltb x.start u)
-    (λ x. bit_and (eqb x.sends b) (ltb x.start t) (ltb x.start u) (λ e. lt-ltb x.start u (omega (arith, ltb-true x.start t e)))) xs
-
-pub brought_rises : (xs : List Exchange) (b t u : ℕ) → t ≤ u → brought xs b t ≤ brought xs b u
-brought_rises xs b t u h = count_le (λ x. eqb x.brings b && ltb x.start t) (λ x. eqb x.brings b && ltb x.start u)
-    (λ x. bit_and (eqb x.brings b) (ltb x.start t) (ltb x.start u) (λ e. lt-ltb x.start u (omega (arith, ltb-true x.start t e)))) xs
-
+-- a count of landings up to a boundary grows with the boundary
 landed_rises : (fetch : ℕ) (xs : List Exchange) (b t u : ℕ) → t ≤ u → landed fetch xs b t ≤ landed fetch xs b u
-landed_rises fetch xs b t u h = count_le (λ x. eqb x.brings b && leb (x.start + fetch) t) (λ x. eqb x.brings b && leb (x.start + fetch) u)
-    (λ x. bit_and (eqb x.brings b) (leb (x.start + fetch) t) (leb (x.start + fetch) u) (λ e. le-leb (x.start + fetch) u (omega (arith, leb-true (x.start + fetch) t e)))) xs
+landed_rises fetch xs b t u h = count_le (λ x. eqb x.brings b && leb (x.start + fetch) t) (λ x. eqb x.brings b && leb (x.start + fetch) u) (λ x. grind (arith, nat_tests)) xs
 
 -- what goes at a boundary has landed at it; what comes at a boundary had gone before it
 pub record Steady (fetch : ℕ) (o : List ℕ) (xs : List Exchange) (b t : ℕ) : Type 0 where
@@ -49,11 +40,11 @@ steady_push side homes fetch o xs x law started b t h =
 
     sent : x.sends ≡ b → x.start < t + 1 → left xs b (t + 1) + 1 ≤ home o b + landed fetch xs b t
     sent e l = subst (λ (c : ℕ). left xs c (t + 1) + 1 ≤ home o c + landed fetch xs c t) e
-        (omega (arith, law.goes.resident, left_before xs x.sends x.start started law.goes.kept, left_goings xs x.sends (t + 1), landed_rises fetch xs x.sends x.start t (omega arith)))
+        (omega (arith, law.goes.resident, early_before out_of xs x.sends x.start started law.goes.kept, early_some out_of xs x.sends (t + 1), landed_rises fetch xs x.sends x.start t (omega arith)))
 
     taken : x.brings ≡ b → x.start < t + 1 → home o b + brought xs b (t + 1) ≤ left xs b t
     taken e l = subst (λ (c : ℕ). home o c + brought xs c (t + 1) ≤ left xs c t) e
-        (omega (arith, law.comes, brought_before xs x.brings x.start started law.alone, brought_comings xs x.brings (t + 1), left_rises xs x.brings x.start t (omega arith)))
+        (omega (arith, law.comes, early_before in_of xs x.brings x.start started law.alone, early_some in_of xs x.brings (t + 1), early_grows out_of xs x.brings x.start t (omega arith)))
 
     low : (bit (eqb x.sends b && ltb x.start (t + 1)) ≡ 0) ⊎ ((eqb x.sends b ≡ true) × (ltb x.start (t + 1) ≡ true) × (bit (eqb x.sends b && ltb x.start (t + 1)) ≡ 1)) →
         left (xs ++ (x ∷ [])) b (t + 1) ≤ home o b + landed fetch (xs ++ (x ∷ [])) b t
@@ -98,21 +89,12 @@ count_more p q h xs j l e f = go (cases_lt (count p xs) (count q xs))
         let c : bit (q (get_or xs j none)) ≡ 1 = ap bit f in
         absurd (omega (arith, count_tight p q h xs (omega (arith, count_le p q h xs)) j l))
 
-module _ (xs : List Exchange) (j : ℕ) (l : j < length xs) where
-  -- an exchange counts from just after its start
-  pub left_more : left xs (get_or xs j none).sends (get_or xs j none).start < left xs (get_or xs j none).sends ((get_or xs j none).start + 1)
-  left_more =
-      let b : ℕ = (get_or xs j none).sends in let s : ℕ = (get_or xs j none).start in
-      count_more (λ x. eqb x.sends b && ltb x.start s) (λ x. eqb x.sends b && ltb x.start (s + 1))
-      (λ x. bit_and (eqb x.sends b) (ltb x.start s) (ltb x.start (s + 1)) (λ e. lt-ltb x.start (s + 1) (omega (arith, ltb-true x.start s e)))) xs j l
-      (and_right (eqb b b) (ltb s s) (le-ltb s s (omega arith))) (and_from (eqb b b) (ltb s (s + 1)) (eq-eqb b b refl) (lt-ltb s (s + 1) (omega arith)))
-
-  pub brought_more : brought xs (get_or xs j none).brings (get_or xs j none).start < brought xs (get_or xs j none).brings ((get_or xs j none).start + 1)
-  brought_more =
-      let b : ℕ = (get_or xs j none).brings in let s : ℕ = (get_or xs j none).start in
-      count_more (λ x. eqb x.brings b && ltb x.start s) (λ x. eqb x.brings b && ltb x.start (s + 1))
-      (λ x. bit_and (eqb x.brings b) (ltb x.start s) (ltb x.start (s + 1)) (λ e. lt-ltb x.start (s + 1) (omega (arith, ltb-true x.start s e)))) xs j l
-      (and_right (eqb b b) (ltb s s) (le-ltb s s (omega arith))) (and_from (eqb b b) (ltb s (s + 1)) (eq-eqb b b refl) (lt-ltb s (s + 1) (omega arith)))
+-- an exchange counts from just after its start
+pub early_counts : (f : Exchange → ℕ) (xs : List Exchange) (j : ℕ) → j < length xs → early f xs (f (get_or xs j none)) (get_or xs j none).start < early f xs (f (get_or xs j none)) ((get_or xs j none).start + 1)
+early_counts f xs j l =
+    let b : ℕ = f (get_or xs j none) in let s : ℕ = (get_or xs j none).start in
+    count_more (λ x. eqb (f x) b && ltb x.start s) (λ x. eqb (f x) b && ltb x.start (s + 1)) (λ x. grind (arith, nat_tests)) xs j l
+    (and_right (eqb b b) (ltb s s) (le-ltb s s (omega arith))) (and_from (eqb b b) (ltb s (s + 1)) (eq-eqb b b refl) (lt-ltb s (s + 1) (omega arith)))
 
 -- landed at a boundary is what started before, a fetch earlier
 lands_as : (s fetch t u : ℕ) → u + 1 ≡ t + fetch → leb (s + fetch) u ≡ ltb s t

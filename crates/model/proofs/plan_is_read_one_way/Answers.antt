@@ -1,5 +1,5 @@
 use Rattle.model.proofs.plan_is_read_one_way.Goals as goal
-use Rattle.model.proofs.Once.{one_plan, keeps_form}
+use Rattle.model.proofs.Once.{one_plan}
 
-pub returns : goal.returns
-returns c = record { one = one_plan; formed = keeps_form }
+pub returns-clause-one : goal.returns-clause-one
+returns-clause-one c = one_plan

@@ -1,5 +1,5 @@
 use Rattle.model.proofs.pass.pass_is_accepted.Goals as goal
-use Rattle.model.proofs.Replaying.{sheet_plays, pass_accepted}
+use Rattle.model.proofs.Replaying.{pass_accepted}
 
-pub returns : goal.returns
-returns c = record { plays = sheet_plays; accepted = pass_accepted }
+pub returns-clause-accepted : goal.returns-clause-accepted
+returns-clause-accepted c = pass_accepted

@@ -34,17 +34,9 @@ not_over Standing c e = refl
 not_over Starting c e = refl
 not_over Over c e = absurd (false≢true e)
 
-some_acts : (a : List Act) (act : Act) (m : List Act) → (a ++ (act ∷ [])) ++ m ≡ [] → ⊥
-some_acts a act m e = never (length-append (a ++ (act ∷ [])) m) (length_push a act) (ap (λ (v : List Act). length v) e)
-  where
-    never : length ((a ++ (act ∷ [])) ++ m) ≡ length (a ++ (act ∷ [])) + length m → length (a ++ (act ∷ [])) ≡ length a + 1 → length ((a ++ (act ∷ [])) ++ m) ≡ 0 → ⊥
-    never p q r = omega arith
-
-some_trades : (xs : List Exchange) (x : Exchange) (m : List Exchange) → (xs ++ (x ∷ [])) ++ m ≡ [] → ⊥
-some_trades xs x m e = never (length-append (xs ++ (x ∷ [])) m) (length_push xs x) (ap (λ (v : List Exchange). length v) e)
-  where
-    never : length ((xs ++ (x ∷ [])) ++ m) ≡ length (xs ++ (x ∷ [])) + length m → length (xs ++ (x ∷ [])) ≡ length xs + 1 → length ((xs ++ (x ∷ [])) ++ m) ≡ 0 → ⊥
-    never p q r = omega arith
+-- a list with one more element is not empty
+some_push : {X : Type 0} (xs : List X) (x : X) (m : List X) → (xs ++ (x ∷ [])) ++ m ≡ [] → ⊥
+some_push xs x m e = omega (arith, length-append (xs ++ (x ∷ [])) m, length_push xs x, ap length e)
 
 module _ (side : Side) (homes : List ℕ) (frames fetch : ℕ) (requests : List ℕ) (room : ℕ) (fit : Fit homes fetch) (total : ℕ) (rest : List ℕ) (short : plan_limit < total → total - length rest ≤ plan_limit) where
   abbrev Whole : Plan → Type 0
@@ -60,10 +52,7 @@ module _ (side : Side) (homes : List ℕ) (frames fetch : ℕ) (requests : List 
     pub comes : out ≡ run side homes frames fetch requests room n total s rest
 
   limit_front : (c : Command) (more : List ℕ) → length (command_bytes c ++ more) ≤ total → length rest ≤ length more → within_limit total (total - length (command_bytes c ++ more)) (size c) ≡ true
-  limit_front c more h l = limit_passes total (total - length (command_bytes c ++ more)) (size c) (λ i j. past (short i) j (length_front c more))
-    where
-      past : total - length rest ≤ plan_limit → plan_limit < total - length (command_bytes c ++ more) + size c → length (command_bytes c ++ more) ≡ size c + length more → ⊥
-      past u v w = omega arith
+  limit_front c more h l = limit_passes total (total - length (command_bytes c ++ more)) (size c) (λ i j. omega (arith, short i, length_front c more))
 
   run_on : (n : ℕ) (s : State) (c : Command) (more : List ℕ) → length (command_bytes c ++ more) ≤ total → length rest ≤ length more → in_place s.phase c ≡ true → AllPass (own_tests side homes frames fetch requests room s c) →
       run side homes frames fetch requests room (suc n) total s (command_bytes c ++ more) ≡ run side homes frames fetch requests room n total (after side homes frames fetch requests room s c) more
@@ -141,7 +130,7 @@ module _ (side : Side) (homes : List ℕ) (frames fetch : ℕ) (requests : List 
       let t = lawful_tests side homes frames fetch requests room fit o a xs s p q h law in
       let many : length (at s.boundary).exchanges ≡ length (xs ++ (x ∷ [])) + length e.more_exchanges = ap (λ (v : List Exchange). length v) e.trades ∙ length-append (xs ++ (x ∷ [])) e.more_exchanges in
       let held : length s.records ≡ length xs = ap (λ (v : List Exchange). length v) h.records in
-      let full : s.opened ≡ frames = h.opened ∙ (sym (ap (λ (v : List ℕ). length v) c) ∙ k'.filled (λ i. some_trades xs x e.more_exchanges (sym e.trades ∙ i.1))) in
+      let full : s.opened ≡ frames = h.opened ∙ (sym (ap (λ (v : List ℕ). length v) c) ∙ k'.filled (λ i. some_push xs x e.more_exchanges (sym e.trades ∙ i.1))) in
       subst (λ (v : Plan). Arrived v (run side homes frames fetch requests room (suc n) total s (flat_map command_bytes (Trades p q ∷ cs) ++ rest))) (sym same)
       (onto (at s.boundary) (run side homes frames fetch requests room (suc n) total s (flat_map command_bytes (Trades p q ∷ cs) ++ rest)) (run side homes frames fetch requests room n total (after side homes frames fetch requests room s (Trades p q)) (flat_map command_bytes cs ++ rest))
       (run_on n s (Trades p q) (flat_map command_bytes cs ++ rest) u (long cs) f.0
@@ -178,7 +167,7 @@ module _ (side : Side) (homes : List ℕ) (frames fetch : ℕ) (requests : List 
       let plan : Plan = gather o (a ++ (Serve ∷ [])) xs cs in
       let e = extends cs o (a ++ (Serve ∷ [])) xs in
       let c : plan.opening ≡ o = closed_to cs Standing o (a ++ (Serve ∷ [])) xs refl f.1 in
-      let full : s.opened ≡ frames = h.opened ∙ (sym (ap (λ (v : List ℕ). length v) c) ∙ k.filled (λ i. some_acts a Serve e.more_acts (sym e.acts ∙ i.0))) in
+      let full : s.opened ≡ frames = h.opened ∙ (sym (ap (λ (v : List ℕ). length v) c) ∙ k.filled (λ i. some_push a Serve e.more_acts (sym e.acts ∙ i.0))) in
       let asked : served ((a ++ (Serve ∷ [])) ++ e.more_acts) ≤ length requests = subst (λ (v : List Act). served v ≤ length requests) e.acts k.asked in
       let there : ResidentDuring fetch o xs (get_or requests (served a) 0) (length a) = during_at o xs a e.more_acts e.more_exchanges plan c e.acts e.trades (λ j m. omega (arith, e.later j m, length_push a Serve)) k in
       let here : ResidentDuring fetch o xs (get_or requests s.position 0) s.boundary =
@@ -200,7 +189,7 @@ module _ (side : Side) (homes : List ℕ) (frames fetch : ℕ) (requests : List 
       let plan : Plan = gather o (a ++ (Wait ∷ [])) xs cs in
       let e = extends cs o (a ++ (Wait ∷ [])) xs in
       let c : plan.opening ≡ o = closed_to cs Standing o (a ++ (Wait ∷ [])) xs refl f.1 in
-      let full : s.opened ≡ frames = h.opened ∙ (sym (ap (λ (v : List ℕ). length v) c) ∙ k.filled (λ i. some_acts a Wait e.more_acts (sym e.acts ∙ i.0))) in
+      let full : s.opened ≡ frames = h.opened ∙ (sym (ap (λ (v : List ℕ). length v) c) ∙ k.filled (λ i. some_push a Wait e.more_acts (sym e.acts ∙ i.0))) in
       onto plan (run side homes frames fetch requests room (suc n) total s (flat_map command_bytes (Waits ∷ cs) ++ rest)) (run side homes frames fetch requests room n total (after side homes frames fetch requests room s Waits) (flat_map command_bytes cs ++ rest))
       (run_on n s Waits (flat_map command_bytes cs ++ rest) u (long cs) f.0 (eq-eqb s.opened frames full, tt))
       (more n (tells_waits side homes frames fetch requests room fit o a xs s h) f.1 k (omega arith) (omega arith))

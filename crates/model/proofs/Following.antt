@@ -261,9 +261,6 @@ module _ (side : Side) (homes : List ℕ) (frames fetch : ℕ) (requests : List 
     runs_track zero c h = h
     runs_track (suc n) c h = runs_track n (next_by side homes frames fetch requests rule (is_over side homes frames fetch requests c) c) (go (is_over side homes frames fetch requests c) refl)
       where
-        below : (p m : ℕ) → p ≤ m → (p ≡ m → ⊥) → p < m
-        below p m l i = omega arith
-
         go : (x : Bool) → is_over side homes frames fetch requests c ≡ x → OnTrack (next_by side homes frames fetch requests rule x c)
         go true e = h
-        go false e = turn_tracks c h (below c.state.position (length requests) h.0.sound.asks (eqb-false c.state.position (length requests) e))
+        go false e = turn_tracks c h (omega (arith, h.0.sound.asks, eqb-false c.state.position (length requests) e))

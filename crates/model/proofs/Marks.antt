@@ -102,10 +102,7 @@ pub mark_step : (fetch : ℕ) (opening : List ℕ) (xs : List Exchange) (t b : �
 mark_step fetch opening xs t b (Here l) s h =
     record { one = h.one; stays = early_all out_of xs b t s; lands = λ u i j. h.lands u (omega arith) j; flies = λ u i j. h.flies u (omega arith) j }
 mark_step fetch opening xs t b (Away g) s h =
-    record { out = h.out; came = early_all in_of xs b t s; gone = λ i. early_all out_of xs b t s; going = λ i. absurd (late i h.soon); soon = omega (arith, h.soon); down = λ u i. h.down u (omega arith) }
-  where
-    late : t + 1 < g → g ≤ t + 1 → ⊥
-    late i j = omega arith
+    record { out = h.out; came = early_all in_of xs b t s; gone = λ i. early_all out_of xs b t s; going = λ i. absurd (omega (arith, h.soon)); soon = omega (arith, h.soon); down = λ u i. h.down u (omega arith) }
 
 -- an exchange of other blocks
 pub mark_other : (fetch : ℕ) → 0 < fetch → (opening : List ℕ) (xs : List Exchange) (x : Exchange) (b : ℕ) (m : Mark) →
@@ -147,14 +144,11 @@ mark_out fetch f opening xs x l p le h =
     record {
       out = omega (arith, other_more in_of xs x x.sends p, same_more out_of xs x x.sends refl, h.one);
       came = omega (arith, early_late in_of xs x x.sends x.start (omega arith), other_more in_of xs x x.sends p, h.lands x.start (omega arith) le, landed_brought fetch f xs x.sends x.start, early_some in_of xs x.sends x.start);
-      gone = λ i. absurd (late i);
+      gone = λ i. absurd (omega arith);
       going = λ i. omega (arith, early_late out_of xs x x.sends x.start (omega arith), same_more out_of xs x x.sends refl, h.stays);
       soon = omega arith;
       down = λ u i. omega (arith, landed_other xs x x.sends fetch u p, other_more in_of xs x x.sends p, h.lands u i (omega arith));
     }
-  where
-    late : x.start + 1 ≤ x.start → ⊥
-    late i = omega arith
 
 -- What the tests of a mark decide.
 pub away_absent : (fetch : ℕ) (opening : List ℕ) (xs : List Exchange) (t b : ℕ) (m : Mark) → MarkIs fetch opening xs t b m → is_away_at m t ≡ true →
@@ -165,11 +159,7 @@ away_absent fetch opening xs t b (Away g) h e = (omega (arith, h.out, h.came, h.
 pub absent_away : (fetch : ℕ) (opening : List ℕ) (xs : List Exchange) (t b : ℕ) (m : Mark) → MarkIs fetch opening xs t b m →
     Absent opening xs b t → brought xs b t ≡ comings xs b → is_away_at m t ≡ true
 absent_away fetch opening xs t b (Here l) h a c = absurd (omega (arith, h.one, h.stays))
-absent_away fetch opening xs t b (Away g) h a c = le-leb g t (go (cases_lt t g))
-  where
-    go : (t < g) ⊎ (g ≤ t) → g ≤ t
-    go (inl i) = absurd (omega (arith, h.out, h.going i))
-    go (inr i) = i
+absent_away fetch opening xs t b (Away g) h a c = le-leb g t (grind (arith, h.out, h.going))
 
 pub here_resident : (fetch : ℕ) (opening : List ℕ) (xs : List Exchange) (t b : ℕ) (m : Mark) → Started xs t → MarkIs fetch opening xs t b m → is_here_at m t ≡ true →
     Resident fetch opening xs b t × (left xs b t ≡ goings xs b) × ResidentDuring fetch opening xs b t
@@ -182,11 +172,7 @@ pub resident_here : (fetch : ℕ) → 0 < fetch → (opening : List ℕ) (xs : L
     ResidentDuring fetch opening xs b t → is_here_at m t ≡ true
 resident_here fetch f opening xs t b (Away g) s h r =
     absurd (omega (arith, h.out, early_all out_of xs b t s, landed_brought fetch f xs b t, early_some in_of xs b t))
-resident_here fetch f opening xs t b (Here l) s h r = le-leb l t (go (cases_lt t l))
-  where
-    go : (t < l) ⊎ (l ≤ t) → l ≤ t
-    go (inl i) = absurd (omega (arith, h.flies t (omega arith) i, early_all out_of xs b t s, r))
-    go (inr i) = i
+resident_here fetch f opening xs t b (Here l) s h r = le-leb l t (grind (arith, h.flies t (omega arith), early_all out_of xs b t s))
 
 -- resident between landings and starts, and not sent out at this boundary: resident during the step
 pub still_resident : (fetch : ℕ) (opening : List ℕ) (xs : List Exchange) (t b : ℕ) → Started xs t → Resident fetch opening xs b t → left xs b t ≡ goings xs b → ResidentDuring fetch opening xs b t

@@ -87,7 +87,7 @@ module _ (side : Side) (homes : List ℕ) (frames fetch : ℕ) (requests : List 
       gone_by = λ b g e. zero_away b g e (h.here_or b);
       soon = λ d. omega (arith, h.idle d, fit.lasts);
       requested = λ b l e m. absurd (not_later b l e m (h.here_or b));
-      last = λ m. absurd (not_landing m);
+      last = λ m. absurd (omega (arith, h.landing));
     },
     h.boundary,
     h.position,
@@ -110,9 +110,6 @@ module _ (side : Side) (homes : List ℕ) (frames fetch : ℕ) (requests : List 
       not_later : (b l : ℕ) → mark s b ≡ Here l → s.boundary < l → (mark s b ≡ Here 0) ⊎ (mark s b ≡ Away 0) → ⊥
       not_later b l e m (inl f) = omega (arith, here_same (mark s b) l 0 e f)
       not_later b l e m (inr f) = here_away (mark s b) l 0 e f
-
-      not_landing : s.boundary < s.landing → ⊥
-      not_landing m = omega (arith, h.landing)
 
   opens_records : (bs : List ℕ) (s : State) → (opens side homes frames fetch requests bs s).records ≡ s.records
   unfolding opens after

@@ -193,12 +193,9 @@ module _ (side : Side) (homes : List ℕ) (frames fetch : ℕ) (requests : List 
           idle_over = each_push xs fresh none (λ _ y. y.start + fetch ≤ get_or idles (occupies side homes y) 0) (λ j l. over j l (cases_eq (occupies side homes (get_or xs j none)) disk)) (omega (arith, idle_same));
           idle_low = λ d t k. low d t k (cases_eq d disk);
           size_idle = length-set s.idle disk (s.boundary + fetch) ∙ h.size_idle;
-          phase = λ k. not_before (each_last xs fresh none (λ _ y. y.start < length a) k);
+          phase = λ k. omega (arith, h.boundary, each_last xs fresh none (λ _ y. y.start < length a) k);
         }
       where
-        not_before : s.boundary < length a → ⊥
-        not_before i = omega (arith, h.boundary)
-
         ne : p ≡ q → ⊥
         ne i = apart (get_or s.marks q (Away 0)) s.boundary (subst (λ (n : ℕ). is_away_at (get_or s.marks n (Away 0)) s.boundary ≡ true) i e) f
 

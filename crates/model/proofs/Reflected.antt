@@ -135,12 +135,9 @@ module _ (side : Side) (homes : List ℕ) (frames fetch : ℕ) (requests : List 
       go (inr l) =
           let e = home_picked_past (remains fetch plan) (length homes) b l in
           let h = home_above 0 (length homes) plan.opening opening_rises b l in
-          let i : comings plan.exchanges b ≡ 0 = count_none (λ x. eqb x.brings b) plan.exchanges (λ j m. ne_eqb (get_or plan.exchanges j none).brings b (apart (get_or plan.exchanges j none).brings (plainly.knows_in j m))) in
-          let o : goings plan.exchanges b ≡ 0 = count_none (λ x. eqb x.sends b) plan.exchanges (λ j m. ne_eqb (get_or plan.exchanges j none).sends b (apart (get_or plan.exchanges j none).sends (plainly.knows_out j m))) in
+          let i : comings plan.exchanges b ≡ 0 = count_none (λ x. eqb x.brings b) plan.exchanges (λ j m. ne_eqb (get_or plan.exchanges j none).brings b (λ (e : (get_or plan.exchanges j none).brings ≡ b). omega (arith, plainly.knows_in j m))) in
+          let o : goings plan.exchanges b ≡ 0 = count_none (λ x. eqb x.sends b) plan.exchanges (λ j m. ne_eqb (get_or plan.exchanges j none).sends b (λ (e : (get_or plan.exchanges j none).sends ≡ b). omega (arith, plainly.knows_out j m))) in
           omega arith
-        where
-          apart : (c : ℕ) → c < length homes → c ≡ b → ⊥
-          apart c m e = omega arith
 
   -- the closing content fills the frames
   pub closing_fills : length (closing (length homes) fetch plan) ≡ frames

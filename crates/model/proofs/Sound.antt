@@ -117,11 +117,8 @@ module _ (side : Side) (homes : List ℕ) (frames fetch : ℕ) (requests : List 
     pub here_old : (b l : ℕ) → mark s b ≡ Here l → s.boundary < l → mark next b ≡ Here l
     here_old b l e m = new_other b
         (λ i. here_away (mark s p) l was_away.0 (subst (λ (n : ℕ). mark s n ≡ Here l) i e) was_away.1)
-        (λ i. late (here_same (mark s q) l was_here.0 (subst (λ (n : ℕ). mark s n ≡ Here l) i e) was_here.1))
+        (λ i. omega (arith, was_here.2, here_same (mark s q) l was_here.0 (subst (λ (n : ℕ). mark s n ≡ Here l) i e) was_here.1))
         ∙ e
-      where
-        late : l ≡ was_here.0 → ⊥
-        late i = omega (arith, was_here.2)
 
     away_new : (b g : ℕ) → mark next b ≡ Away g → (g ≡ s.boundary + 1) ⊎ (mark s b ≡ Away g)
     away_new b g e = go (cases_eq b p) (cases_eq b q)

@@ -115,14 +115,8 @@ module _ (side : Side) (homes : List ℕ) (frames fetch : ℕ) (requests : List 
       go (Goes s' rest') e = let k = step_shorter s rest s' rest' e in more s' rest' (omega arith) (omega arith)
 
   pub run_enough : (n m : ℕ) → Enough n m
-  run_enough zero m = λ s rest i j. absurd (none i)
-    where
-      none : {a : ℕ} → a < 0 → ⊥
-      none i = omega arith
-  run_enough (suc n) zero = λ s rest i j. absurd (none j)
-    where
-      none : {a : ℕ} → a < 0 → ⊥
-      none i = omega arith
+  run_enough zero m = λ s rest i j. absurd (omega arith)
+  run_enough (suc n) zero = λ s rest i j. absurd (omega arith)
   run_enough (suc n) (suc m) = enough_more n m (run_enough n m)
 
   -- For a loop over the rest: with more turns than there are bytes left, a turn that goes on, one that stops, and the end.

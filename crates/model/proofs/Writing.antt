@@ -34,12 +34,9 @@ unfolding step_commands
 steps_late t [] xs x h = refl
 steps_late t (act ∷ a) xs x h =
     let e : starting_at t (xs ++ (x ∷ [])) ≡ starting_at t xs =
-    starting_append t xs (x ∷ []) ∙ (ap (λ (ys : List Exchange). starting_at t xs ++ ys) (starting_not t x (ne h)) ∙ append-nil (starting_at t xs)) in
+    starting_append t xs (x ∷ []) ∙ (ap (λ (ys : List Exchange). starting_at t xs ++ ys) (starting_not t x (λ (e : x.start ≡ t). omega arith)) ∙ append-nil (starting_at t xs)) in
     let f = steps_late (t + 1) a xs x (omega arith) in
     cc
-  where
-    ne : t + suc (length a) ≤ x.start → x.start ≡ t → ⊥
-    ne k e = omega arith
 
 -- the steps of one list of acts after those of another
 pub steps_append : (a b : List Act) (t : ℕ) (xs : List Exchange) → step_commands t (a ++ b) xs ≡ step_commands t a xs ++ step_commands (t + length a) b xs
@@ -85,24 +82,18 @@ unfolding so_far
 so_far_act o a xs act s =
     let f = steps_push 0 a act xs in
     let n : 0 + length a ≡ length a = zero-add (length a) in
-    let e : starting_at (length (a ++ (act ∷ []))) xs ≡ [] = starting_none (length (a ++ (act ∷ []))) xs (λ j l k. past j (s j l) k (length_push a act)) in
+    let e : starting_at (length (a ++ (act ∷ []))) xs ≡ [] = starting_none (length (a ++ (act ∷ []))) xs (λ j l k. omega (arith, s j l, length_push a act)) in
     let h = append_assoc (step_commands 0 a xs) (map trade_command (starting_at (length a) xs)) (act_command act ∷ []) in
     let i = append_assoc (map Opens o) (step_commands 0 a xs ++ map trade_command (starting_at (length a) xs)) (act_command act ∷ []) in
     let j = append-nil (step_commands 0 (a ++ (act ∷ [])) xs) in
     cc
-  where
-    past : (j : ℕ) → (get_or xs j none).start ≤ length a → (get_or xs j none).start ≡ length (a ++ (act ∷ [])) → length (a ++ (act ∷ [])) ≡ length a + 1 → ⊥
-    past j p q r = omega arith
 
 -- at a boundary where nothing has started, the end completes the plan
 pub so_far_ends : (o : List ℕ) (a : List Act) (xs : List Exchange) → ((j : ℕ) → j < length xs → (get_or xs j none).start < length a) →
     plan_commands (record { opening = o; acts = a; exchanges = xs }) ≡ so_far o a xs ++ (Ends ∷ [])
 unfolding so_far plan_commands
 so_far_ends o a xs s =
-    let e : starting_at (length a) xs ≡ [] = starting_none (length a) xs (λ j l k. past j (s j l) k) in
+    let e : starting_at (length a) xs ≡ [] = starting_none (length a) xs (λ j l k. omega (arith, s j l)) in
     let h = append_assoc (step_commands 0 a xs) (map trade_command (starting_at (length a) xs)) (Ends ∷ []) in
     let i = append_assoc (map Opens o) (step_commands 0 a xs ++ map trade_command (starting_at (length a) xs)) (Ends ∷ []) in
     cc
-  where
-    past : (j : ℕ) → (get_or xs j none).start < length a → (get_or xs j none).start ≡ length a → ⊥
-    past j p q = omega arith

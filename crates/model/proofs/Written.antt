@@ -12,12 +12,9 @@ use Rattle.model.proofs.Arrives.{verdict_ends}
 pub written_accepted : (side : Side) (homes : List ℕ) (frames fetch : ℕ) (requests : List ℕ) (room : ℕ) (bytes : List ℕ) (plan : Plan) → Fit homes fetch → WrittenBy side homes frames fetch requests bytes plan →
     length plan.exchanges ≤ room → verdict side homes frames fetch requests room bytes ≡ plan_outcome plan
 written_accepted side homes frames fetch requests room bytes plan fit w r =
-    let p = verdict_ends side homes frames fetch requests room fit bytes plan [] w.keeps r (w.written ∙ sym (append-nil (plan_bytes plan))) (λ l. absurd (beyond l w.within)) in
+    let p = verdict_ends side homes frames fetch requests room fit bytes plan [] w.keeps r (w.written ∙ sym (append-nil (plan_bytes plan))) (λ l. absurd (omega (arith, w.within))) in
     p.comes ∙ (ended p.n p.s p.over p.enough ∙ accepts_as p.s plan.opening plan.acts plan.exchanges p.tells_it.boundary p.tells_it.waits p.tells_it.records)
   where
-    beyond : plan_limit < length bytes → length bytes ≤ plan_limit → ⊥
-    beyond l m = omega arith
-
     ended : (n : ℕ) (s : State) → is_over s.phase ≡ true → 0 < n → run side homes frames fetch requests room n (length bytes) s [] ≡ accepted s
     ended zero s o l = absurd (omega arith)
     ended (suc n) s o l = over_ends side homes frames fetch requests room (length bytes) n s o

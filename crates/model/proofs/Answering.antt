@@ -5,18 +5,18 @@ use Rattle.std.proofs.lemmas.Bool.{false≢true, both_ways, ltb-true, ltb-false,
 use Rattle.model.specs.Timetable.{Forward}
 use Rattle.model.specs.View.{Option, None, Some, View, Absent, Resident, blocks, may_go_out, next_use, first_at, first_from, better_if, greatest, latest_of}
 use Rattle.model.specs.ViewLaws.{FirstIs, FirstsExact, LatestIs, LatestsExact, SilenceBreaksTheLaw}
-use Rattle.model.proofs.Choosing.{latest_none, greatest_none}
+use Rattle.model.proofs.Choosing.{latest_none, greatest_none, Top, top, known_out}
 use Rattle.std.proofs.lemmas.Option.{same_Some}
 
 -- first, over a list whose head stands at a position
-record At (test : ℕ → Bool) (rs : List ℕ) (at k : ℕ) : Type 0 where
-  offset : ℕ
-  is : k ≡ at + offset
-  within : offset ≤ length rs
-  passes : offset < length rs → test (get_or rs offset 0) ≡ true
-  none_before : (j : ℕ) → j < offset → test (get_or rs j 0) ≡ false
+pub record At (test : ℕ → Bool) (rs : List ℕ) (at k : ℕ) : Type 0 where
+  pub offset : ℕ
+  pub is : k ≡ at + offset
+  pub within : offset ≤ length rs
+  pub passes : offset < length rs → test (get_or rs offset 0) ≡ true
+  pub none_before : (j : ℕ) → j < offset → test (get_or rs j 0) ≡ false
 
-first_at_lem : (test : ℕ → Bool) (rs : List ℕ) (at : ℕ) → At test rs at (first_at test rs at)
+pub first_at_lem : (test : ℕ → Bool) (rs : List ℕ) (at : ℕ) → At test rs at (first_at test rs at)
 unfolding first_at
 first_at_lem test [] at = record { offset = 0; is = omega arith; within = omega arith; passes = λ l. absurd (omega arith); none_before = λ j l. absurd (omega arith) }
 first_at_lem test (r ∷ rs) at = go (test r) refl (first_at_lem test rs (at + 1))
@@ -29,7 +29,7 @@ first_at_lem test (r ∷ rs) at = go (test r) refl (first_at_lem test rs (at + 1
         none zero l = e
         none (suc j) l = h.none_before j (omega arith)
 
-first_is : (v : View) (test : ℕ → Bool) → v.position ≤ length v.requests → FirstIs v.requests v.position test (first_from v test)
+pub first_is : (v : View) (test : ℕ → Bool) → v.position ≤ length v.requests → FirstIs v.requests v.position test (first_from v test)
 first_is v test l =
     let h = first_at_lem test (drop v.position v.requests) v.position in
     let n = length-drop v.position v.requests in
@@ -56,46 +56,6 @@ first_only requests p test k m f g = go (cases_order k m)
 
 pub firsts_exact : FirstsExact
 firsts_exact v test l = record { is = first_is v test l; only = λ k f. first_only v.requests v.position test k (first_from v test) f (first_is v test l) }
-
--- the greatest by a key, ties to the lowest
-record Top (p : ℕ → Bool) (key : ℕ → ℕ) (n b : ℕ) : Type 0 where
-  below : b < n
-  passes : p b ≡ true
-  most : (c : ℕ) → c < n → p c ≡ true → key c ≤ key b
-  lowest : (c : ℕ) → c < b → p c ≡ true → key c < key b
-
-module _ (p : ℕ → Bool) (key : ℕ → ℕ) where
-  top : (n b : ℕ) → greatest p key n ≡ Some b → Top p key n b
-  unfolding greatest
-  top zero b e = absurd (cc)
-  top (suc n) b e = go (p n) refl (greatest p key n) refl (λ c f. top n c f) e
-    where
-      up : Top p key n b → (p n ≡ true → key n ≤ key b) → Top p key (suc n) b
-      up h k = record { below = omega (arith, h.below); passes = h.passes; most = λ c l f. most c l f (cases_eq c n); lowest = h.lowest }
-        where
-          most : (c : ℕ) → c < suc n → p c ≡ true → (c ≡ n) ⊎ (c ≡ n → ⊥) → key c ≤ key b
-          most c l f (inl i) = subst (λ (m : ℕ). key m ≤ key b) (sym i) (k (subst (λ (m : ℕ). p m ≡ true) i f))
-          most c l f (inr i) = h.most c (omega arith) f
-
-      new : (m : ℕ) → p n ≡ true → ((c : ℕ) → c < n → p c ≡ true → key c < key n) → n ≡ b → Top p key (suc n) b
-      new m f k i = subst (λ (x : ℕ). Top p key (suc n) x) i
-          (record { below = omega arith; passes = f; most = λ c l g. most c l g (cases_eq c n); lowest = λ c l g. k c l g })
-        where
-          most : (c : ℕ) → c < suc n → p c ≡ true → (c ≡ n) ⊎ (c ≡ n → ⊥) → key c ≤ key n
-          most c l g (inl i) = subst (λ (m : ℕ). key m ≤ key n) (sym i) (omega arith)
-          most c l g (inr i) = omega (arith, k c (omega arith) g)
-
-      go : (x : Bool) → p n ≡ x → (y : Option ℕ) → greatest p key n ≡ y → ((c : ℕ) → y ≡ Some c → Top p key n c) → better_if x key n y ≡ Some b → Top p key (suc n) b
-      go false f y g h e = up (h b e) (λ k. absurd (both_ways (p n) f k))
-      go true f None g h e = new 0 f (λ c l k. absurd (both_ways (p c) (greatest_none p key n g c l) k)) (same_Some n b e)
-      go true f (Some m) g h e = pick (ltb (key m) (key n)) refl e
-        where
-          pick : (z : Bool) → ltb (key m) (key n) ≡ z → cond z (Some n) (Some m) ≡ Some b → Top p key (suc n) b
-          pick true i e = new m f (λ c l k. omega (arith, (h m refl).most c l k, ltb-true (key m) (key n) i)) (same_Some n b e)
-          pick false i e = up (h b e) (λ k. subst (λ (x : ℕ). key n ≤ key x) (same_Some m b e) (ltb-false (key m) (key n) i))
-
-known_out : (v : View) (b : ℕ) → may_go_out v b ≡ true → b < blocks v
-known_out v b e = ltb-true b (blocks v) (and_parts (ltb b (blocks v)) _ e).0
 
 latest_is : (v : View) (test : ℕ → Bool) (b : ℕ) → latest_of v test ≡ Some b → LatestIs v test b
 latest_is v test b e =

@@ -1,10 +1,11 @@
 -- Need's law for the two rules, on both sides.
 use Rattle.std.proofs.Common.{◌≡◌, ℕ, zero, suc, ◌+◌, ◌<◌, ◌≤◌, Bool, true, false, cond, ◌&&◌, eqb, ltb, ◌⊎◌, [], ◌∷◌, length, get_or, sym, refl, ap, ◌∙◌, subst, inl, inr, arith}
 use Rattle.std.proofs.lemmas.List.{get_or_past}
-use Rattle.std.proofs.lemmas.Bool.{false≢true, both_ways, and_parts, and_from, ltb-true, lt-ltb, eqb-true, eq-eqb, cases_eq, cases_lt, false_from_ne_true}
+use Rattle.std.proofs.lemmas.Bool.{false≢true, both_ways, and_parts, and_from, ltb-true, lt-ltb, eqb-true, eq-eqb, cases_eq, cases_lt, false_from_ne_true, ltb-false}
 use Rattle.model.specs.Timetable.{Side, Forward, Backward, occupies}
 use Rattle.model.specs.View.{Option, None, Some, View, blocks, wanted_block, is_free, missing, may_go_out, lawful, all_of, disk_of, next_use, better_if, greatest, latest, latest_on, latest_of}
 use Rattle.model.specs.Rules.{Wants, NeedLaw, or_else, lowest_free, aggressive, aggressive_need, demand}
+use Rattle.std.proofs.lemmas.Option.{same_Some}
 
 -- four tests that all pass
 pub all_four : (p q r s : Bool) → all_of (p ∷ q ∷ r ∷ s ∷ []) ≡ true → (p ≡ true) × (q ≡ true) × (r ≡ true) × (s ≡ true)
@@ -20,6 +21,10 @@ all_four false q r s e = absurd (false≢true e)
 pub four_all : (p q r s : Bool) → p ≡ true → q ≡ true → r ≡ true → s ≡ true → all_of (p ∷ q ∷ r ∷ s ∷ []) ≡ true
 four_all p q r s a b c d = rw (a, b, c, d)
 
+-- a block that may go out exists
+pub known_out : (v : View) (b : ℕ) → may_go_out v b ≡ true → b < blocks v
+known_out v b e = ltb-true b (blocks v) (and_parts (ltb b (blocks v)) _ e).0
+
 -- What a lawful exchange says.
 pub record IsLawful (v : View) (a b : ℕ) : Type 0 where
   pub known_in : a < blocks v
@@ -31,24 +36,10 @@ pub record IsLawful (v : View) (a b : ℕ) : Type 0 where
 pub lawful_parts : (v : View) (a b : ℕ) → lawful v a b ≡ true → IsLawful v a b
 lawful_parts v a b e =
     let p = all_four (ltb a (blocks v)) (missing v a) (may_go_out v b) (is_free v (disk_of v a b)) e in
-    record { known_in = ltb-true a (blocks v) p.0; comes = p.1; known_out = ltb-true b (blocks v) (and_parts (ltb b (blocks v)) _ p.2).0; goes = p.2; on_free = p.3 }
+    record { known_in = ltb-true a (blocks v) p.0; comes = p.1; known_out = known_out v b p.2; goes = p.2; on_free = p.3 }
 
--- the greatest passes, and where there is none, none passes
+-- where there is no greatest, none passes
 module _ (p : ℕ → Bool) (key : ℕ → ℕ) where
-  picks : (n b : ℕ) (t : Bool) (o : Option ℕ) → p n ≡ t → ((c : ℕ) → o ≡ Some c → (c < n) × (p c ≡ true)) → better_if t key n o ≡ Some b → (b < suc n) × (p b ≡ true)
-  picks n b false o e h f = let k = h b f in (omega (arith, k.0), k.1)
-  picks n b true None e h f = let i : n ≡ b = cc in (omega arith, subst (λ (m : ℕ). p m ≡ true) i e)
-  picks n b true (Some m) e h f = go (ltb (key m) (key n)) f
-    where
-      go : (t : Bool) → cond t (Some n) (Some m) ≡ Some b → (b < suc n) × (p b ≡ true)
-      go true f = let i : n ≡ b = cc in (omega arith, subst (λ (m : ℕ). p m ≡ true) i e)
-      go false f = let k = h b f in (omega (arith, k.0), k.1)
-
-  pub greatest_some : (n b : ℕ) → greatest p key n ≡ Some b → (b < n) × (p b ≡ true)
-  unfolding greatest
-  greatest_some zero b e = absurd (cc)
-  greatest_some (suc n) b e = picks n b (p n) (greatest p key n) refl (λ c f. greatest_some n c f) e
-
   misses : (n : ℕ) (t : Bool) (o : Option ℕ) → p n ≡ t → (o ≡ None → (b : ℕ) → b < n → p b ≡ false) → better_if t key n o ≡ None → (b : ℕ) → b < suc n → p b ≡ false
   misses n true None e h f b l = absurd (cc)
   misses n true (Some m) e h f b l = absurd (go (ltb (key m) (key n)) f)
@@ -67,13 +58,50 @@ module _ (p : ℕ → Bool) (key : ℕ → ℕ) where
   greatest_none zero e b l = absurd (omega arith)
   greatest_none (suc n) e b l = misses n (p n) (greatest p key n) refl (λ f c m. greatest_none n f c m) e b l
 
+-- the greatest by a key, ties to the lowest
+pub record Top (p : ℕ → Bool) (key : ℕ → ℕ) (n b : ℕ) : Type 0 where
+  pub below : b < n
+  pub passes : p b ≡ true
+  pub most : (c : ℕ) → c < n → p c ≡ true → key c ≤ key b
+  pub lowest : (c : ℕ) → c < b → p c ≡ true → key c < key b
+
+module _ (p : ℕ → Bool) (key : ℕ → ℕ) where
+  pub top : (n b : ℕ) → greatest p key n ≡ Some b → Top p key n b
+  unfolding greatest
+  top zero b e = absurd (cc)
+  top (suc n) b e = go (p n) refl (greatest p key n) refl (λ c f. top n c f) e
+    where
+      up : Top p key n b → (p n ≡ true → key n ≤ key b) → Top p key (suc n) b
+      up h k = record { below = omega (arith, h.below); passes = h.passes; most = λ c l f. most c l f (cases_eq c n); lowest = h.lowest }
+        where
+          most : (c : ℕ) → c < suc n → p c ≡ true → (c ≡ n) ⊎ (c ≡ n → ⊥) → key c ≤ key b
+          most c l f (inl i) = subst (λ (m : ℕ). key m ≤ key b) (sym i) (k (subst (λ (m : ℕ). p m ≡ true) i f))
+          most c l f (inr i) = h.most c (omega arith) f
+
+      new : (m : ℕ) → p n ≡ true → ((c : ℕ) → c < n → p c ≡ true → key c < key n) → n ≡ b → Top p key (suc n) b
+      new m f k i = subst (λ (x : ℕ). Top p key (suc n) x) i
+          (record { below = omega arith; passes = f; most = λ c l g. most c l g (cases_eq c n); lowest = λ c l g. k c l g })
+        where
+          most : (c : ℕ) → c < suc n → p c ≡ true → (c ≡ n) ⊎ (c ≡ n → ⊥) → key c ≤ key n
+          most c l g (inl i) = subst (λ (m : ℕ). key m ≤ key n) (sym i) (omega arith)
+          most c l g (inr i) = omega (arith, k c (omega arith) g)
+
+      go : (x : Bool) → p n ≡ x → (y : Option ℕ) → greatest p key n ≡ y → ((c : ℕ) → y ≡ Some c → Top p key n c) → better_if x key n y ≡ Some b → Top p key (suc n) b
+      go false f y g h e = up (h b e) (λ k. absurd (both_ways (p n) f k))
+      go true f None g h e = new 0 f (λ c l k. absurd (both_ways (p c) (greatest_none p key n g c l) k)) (same_Some n b e)
+      go true f (Some m) g h e = pick (ltb (key m) (key n)) refl e
+        where
+          pick : (z : Bool) → ltb (key m) (key n) ≡ z → cond z (Some n) (Some m) ≡ Some b → Top p key (suc n) b
+          pick true i e = new m f (λ c l k. omega (arith, (h m refl).most c l k, ltb-true (key m) (key n) i)) (same_Some n b e)
+          pick false i e = up (h b e) (λ k. subst (λ (x : ℕ). key n ≤ key x) (same_Some m b e) (ltb-false (key m) (key n) i))
+
 -- the latest of those that pass a test may go out and passes; and where there is none, none that may go out passes
 pub latest_some : (v : View) (p : ℕ → Bool) (b : ℕ) → latest_of v p ≡ Some b → (may_go_out v b ≡ true) × (p b ≡ true)
-latest_some v p b e = and_parts (may_go_out v b) (p b) (greatest_some (λ c. may_go_out v c && p c) (next_use v) (blocks v) b e).1
+latest_some v p b e = and_parts (may_go_out v b) (p b) (top (λ c. may_go_out v c && p c) (next_use v) (blocks v) b e).passes
 
 pub latest_none : (v : View) (p : ℕ → Bool) → latest_of v p ≡ None → (b : ℕ) → may_go_out v b ≡ true → p b ≡ true → ⊥
 latest_none v p e b m q =
-    both_ways (may_go_out v b && p b) (greatest_none (λ c. may_go_out v c && p c) (next_use v) (blocks v) e b (ltb-true b (blocks v) (and_parts (ltb b (blocks v)) _ m).0)) (and_from (may_go_out v b) (p b) m q)
+    both_ways (may_go_out v b && p b) (greatest_none (λ c. may_go_out v c && p c) (next_use v) (blocks v) e b (known_out v b m)) (and_from (may_go_out v b) (p b) m q)
 
 pub demand_law : NeedLaw demand
 demand_law = record {

@@ -7,6 +7,7 @@ use Rattle.model.specs.Verdict.{Mark, Away, Here, is_away_at, is_here_at, State}
 use Rattle.model.specs.View.{Place, View, is_absent, is_resident, missing, may_go_out, lawful, is_free, disk_of, next_use, first_at}
 use Rattle.model.specs.Pass.{each, place_by, named_by, seen}
 use Rattle.model.proofs.Choosing.{lawful_parts, four_all, free_known}
+use Rattle.model.proofs.Answering.{first_at_lem, first_is}
 
 pub each_length : {X : Type 0} (f : ℕ → X) (n : ℕ) → length (each f n) ≡ n
 unfolding each
@@ -62,25 +63,11 @@ pub record Requested (requests : List ℕ) (p b : ℕ) : Type 0 where
   pub within : at < length requests
   pub is : get_or requests at 0 ≡ b
 
-first_found : (p : ℕ → Bool) (rs : List ℕ) (at : ℕ) → first_at p rs at < at + length rs → (i : ℕ) × (i < length rs) × (p (get_or rs i 0) ≡ true)
-unfolding first_at
-first_found p [] at h = absurd (omega arith)
-first_found p (r ∷ rs) at h = go (p r) refl h (λ k. first_found p rs (at + 1) k)
-  where
-    go : (t : Bool) → p r ≡ t → cond t at (first_at p rs (at + 1)) < at + suc (length rs) →
-        (first_at p rs (at + 1) < at + 1 + length rs → (i : ℕ) × (i < length rs) × (p (get_or rs i 0) ≡ true)) → (i : ℕ) × (i < suc (length rs)) × (p (get_or (r ∷ rs) i 0) ≡ true)
-    go true e h k = (0, omega arith, e)
-    go false e h k = let j = k (omega arith) in (suc j.0, omega (arith, j.1), j.2)
-
 pub use_requested : (v : View) (b : ℕ) → next_use v b < length v.requests → Requested v.requests v.position b
 use_requested v b h =
-    let j = first_found (λ r. eqb r b) (drop v.position v.requests) v.position (omega (arith, length-drop v.position v.requests)) in
-    record {
-      at = v.position + j.0;
-      from = omega arith;
-      within = omega (arith, length-drop v.position v.requests, j.1);
-      is = sym (get_or-drop v.position v.requests j.0 0) ∙ eqb-true (get_or (drop v.position v.requests) j.0 0) b j.2;
-    }
+    let l = first_at_lem (λ r. eqb r b) (drop v.position v.requests) v.position in
+    let f = first_is v (λ r. eqb r b) (omega (arith, l.is)) in
+    record { at = next_use v b; from = f.from; within = h; is = eqb-true (get_or v.requests (next_use v b) 0) b (f.passes h) }
 
 -- the disk of an exchange does not depend on its start
 pub disk_late : (side : Side) (homes : List ℕ) (p q t u : ℕ) → occupies side homes (record { brings = p; sends = q; start = t }) ≡ occupies side homes (record { brings = p; sends = q; start = u })

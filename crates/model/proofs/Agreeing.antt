@@ -8,10 +8,11 @@ use Rattle.model.specs.View.{Place}
 use Rattle.model.specs.Pass.{each, place_by, named_by, seen}
 use Rattle.model.specs.Follows.{place_at, named_at, free_at, view_at}
 use Rattle.model.proofs.Counting.{count_same, count_none}
-use Rattle.model.proofs.Marks.{Started, MarkIs, HereFrom, comings, goings, early_all, out_of, in_of, landed_brought, early_some}
+use Rattle.model.proofs.Marks.{Started, MarkIs, HereFrom, comings, goings, early_all, out_of, in_of, landed_brought, early_some, AwayFrom}
 use Rattle.model.proofs.Progress.{Tells}
 use Rattle.model.proofs.Seeing.{mark, idle_from, each_at, each_length}
 use Rattle.model.proofs.Steady.{landed_started}
+use Rattle.std.proofs.lemmas.Bool.Decides.{nat_tests}
 
 each_same : {X : Type 0} (f g : ℕ → X) (n : ℕ) → ((b : ℕ) → b < n → f b ≡ g b) → each f n ≡ each g n
 unfolding each
@@ -19,87 +20,42 @@ each_same f g zero h = refl
 each_same f g (suc n) h = let e = each_same f g n (λ b l. h b (omega arith)) in let k = h n (omega arith) in cc
 
 module _ (fetch : ℕ) (lasts : 0 < fetch) (o : List ℕ) (xs : List Exchange) (t b : ℕ) (started : Started xs t) where
-  -- a block that is to land: brought in at this boundary exactly if it lands after the fetch time
-  fresh_now : HereFrom fetch o xs t b (t + fetch) → home o b + brought xs b t ≡ left xs b t
-  fresh_now h =
-      let u : ℕ = t + fetch - 1 in
-      let e = landed_started fetch xs b t u (omega arith) in
-      omega (arith, h.flies u (omega arith) (omega arith), h.stays)
+  -- a block that is away, and one that is here or is to land
+  place_away : (g : ℕ) → AwayFrom fetch o xs t b g → place_by fetch t (Away g) ≡ place_at fetch o xs t b
+  place_away g h = let out = h.out in let came = h.came in let gone = h.gone in let going = h.going in let down = h.down t (omega arith) in grind (arith, nat_tests)
 
-  not_fresh : (l : ℕ) → HereFrom fetch o xs t b l → l < t + fetch → brought xs b t ≡ comings xs b
-  not_fresh l h m =
+  place_here : (l : ℕ) → HereFrom fetch o xs t b l → l ≤ t + fetch → place_by fetch t (Here l) ≡ place_at fetch o xs t b
+  place_here l h top =
       let u : ℕ = t + fetch - 1 in
-      let e = landed_started fetch xs b t u (omega arith) in
-      omega (arith, h.lands u (omega arith) (omega arith))
+      let eve = landed_started fetch xs b t u (omega arith) in
+      let one = h.one in let stays = h.stays in
+      let lands = h.lands t (omega arith) in let lands_next = h.lands u (omega arith) in
+      let flies = h.flies t (omega arith) in let flies_next = h.flies u (omega arith) in
+      grind (arith, nat_tests)
+
+  named_away : (g : ℕ) → AwayFrom fetch o xs t b g → named_by fetch t (Away g) ≡ named_at xs t b
+  named_away g h =
+      let ins = early_all in_of xs b t started in let outs = early_all out_of xs b t started in
+      let came = h.came in let gone = h.gone in let going = h.going in
+      grind (arith, nat_tests)
+
+  named_here : (l : ℕ) → HereFrom fetch o xs t b l → l ≤ t + fetch → named_by fetch t (Here l) ≡ named_at xs t b
+  named_here l h top =
+      let u : ℕ = t + fetch - 1 in
+      let eve = landed_started fetch xs b t u (omega arith) in
+      let ins = early_all in_of xs b t started in let outs = early_all out_of xs b t started in
+      let least = landed_brought fetch lasts xs b t in let most = early_some in_of xs b t in
+      let one = h.one in let stays = h.stays in
+      let lands = h.lands t (omega arith) in let lands_next = h.lands u (omega arith) in let flies_next = h.flies u (omega arith) in
+      grind (arith, nat_tests)
 
   place_same : (m : Mark) → MarkIs fetch o xs t b m → ((l : ℕ) → m ≡ Here l → l ≤ t + fetch) → place_by fetch t m ≡ place_at fetch o xs t b
-  place_same (Away g) h top = go (leb g t) refl
-    where
-      go : (x : Bool) → leb g t ≡ x → cond x Place.Absent Place.Resident ≡ place_at fetch o xs t b
-      go true e =
-          rw (
-            ne_eqb (home o b + landed fetch xs b t) (left xs b t + 1) (λ i. early i (h.gone (leb-true g t e)) (h.down t (omega arith)) h.out),
-            eq-eqb (home o b + brought xs b t) (left xs b t) (omega (arith, h.gone (leb-true g t e), h.came, h.out)),
-          )
-        where
-          early : home o b + landed fetch xs b t ≡ left xs b t + 1 → left xs b t ≡ goings xs b → landed fetch xs b t ≡ comings xs b → home o b + comings xs b ≡ goings xs b → ⊥
-          early i j k l = omega arith
-      go false e = rw (eq-eqb (home o b + landed fetch xs b t) (left xs b t + 1) (omega (arith, h.going (leb-false g t e), h.down t (omega arith), h.out)))
-  place_same (Here l) h top = go (leb l t) refl (eqb l (t + fetch)) refl
-    where
-      flying : t < l → home o b + landed fetch xs b t ≡ left xs b t + 1 → ⊥
-      flying m i = omega (arith, h.flies t (omega arith) m, h.stays)
-
-      go : (x : Bool) → leb l t ≡ x → (y : Bool) → eqb l (t + fetch) ≡ y → cond x Place.Resident (cond y Place.Absent Place.InFlight) ≡ place_at fetch o xs t b
-      go true e y f = rw (eq-eqb (home o b + landed fetch xs b t) (left xs b t + 1) (omega (arith, h.lands t (omega arith) (leb-true l t e), h.one, h.stays)))
-      go false e true f =
-          rw (
-            ne_eqb (home o b + landed fetch xs b t) (left xs b t + 1) (flying (leb-false l t e)),
-            eq-eqb (home o b + brought xs b t) (left xs b t) (fresh_now (subst (λ (n : ℕ). HereFrom fetch o xs t b n) (eqb-true l (t + fetch) f) h)),
-          )
-      go false e false f =
-          rw (
-            ne_eqb (home o b + landed fetch xs b t) (left xs b t + 1) (flying (leb-false l t e)),
-            ne_eqb (home o b + brought xs b t) (left xs b t) (λ i. old i),
-          )
-        where
-          lower : (l ≡ t + fetch → ⊥) → l ≤ t + fetch → l < t + fetch
-          lower i j = omega arith
-
-          old : home o b + brought xs b t ≡ left xs b t → ⊥
-          old i = omega (arith, not_fresh l h (lower (eqb-false l (t + fetch) f) (top l refl)), h.one, h.stays)
-
-  -- by counts: named exactly if not all was brought in, or not all sent out, before
-  named_counts : (x y : Bool) → eqb (brought xs b t) (comings xs b) ≡ x → eqb (left xs b t) (goings xs b) ≡ y → named_at xs t b ≡ not (x && y)
-  named_counts x y e f = rw (early_all in_of xs b t started, early_all out_of xs b t started, e, f)
+  place_same (Away g) h top = place_away g h
+  place_same (Here l) h top = place_here l h (top l refl)
 
   named_same : (m : Mark) → MarkIs fetch o xs t b m → ((l : ℕ) → m ≡ Here l → l ≤ t + fetch) → named_by fetch t m ≡ named_at xs t b
-  named_same (Away g) h top = go (leb g t) refl
-    where
-      came : eqb (brought xs b t) (comings xs b) ≡ true
-      came = eq-eqb (brought xs b t) (comings xs b) h.came
-
-      go : (x : Bool) → leb g t ≡ x → not x ≡ named_at xs t b
-      go true e = sym (named_counts true true came (eq-eqb (left xs b t) (goings xs b) (h.gone (leb-true g t e))))
-      go false e = sym (named_counts true false came (ne_eqb (left xs b t) (goings xs b) (λ i. off i (h.going (leb-false g t e)))))
-        where
-          off : left xs b t ≡ goings xs b → left xs b t + 1 ≡ goings xs b → ⊥
-          off i j = omega arith
-  named_same (Here l) h top = go (leb l t) refl (eqb l (t + fetch)) refl
-    where
-      stays : eqb (left xs b t) (goings xs b) ≡ true
-      stays = eq-eqb (left xs b t) (goings xs b) h.stays
-
-      go : (x : Bool) → leb l t ≡ x → (y : Bool) → eqb l (t + fetch) ≡ y → (not x && y) ≡ named_at xs t b
-      go true e y f = sym (named_counts true true (eq-eqb (brought xs b t) (comings xs b) (omega (arith, h.lands t (omega arith) (leb-true l t e), landed_brought fetch lasts xs b t, early_some in_of xs b t))) stays)
-      go false e true f = sym (named_counts false true (ne_eqb (brought xs b t) (comings xs b) off) stays)
-        where
-          off : brought xs b t ≡ comings xs b → ⊥
-          off i = omega (arith, fresh_now (subst (λ (n : ℕ). HereFrom fetch o xs t b n) (eqb-true l (t + fetch) f) h), h.one, h.stays)
-      go false e false f = sym (named_counts true true (eq-eqb (brought xs b t) (comings xs b) (not_fresh l h (lower (eqb-false l (t + fetch) f) (top l refl)))) stays)
-        where
-          lower : (l ≡ t + fetch → ⊥) → l ≤ t + fetch → l < t + fetch
-          lower i j = omega arith
+  named_same (Away g) h top = named_away g h
+  named_same (Here l) h top = named_here l h (top l refl)
 
 pub count_zero : (p : Exchange → Bool) (xs : List Exchange) → count p xs ≡ 0 → (j : ℕ) → j < length xs → p (get_or xs j none) ≡ false
 unfolding count
@@ -118,21 +74,10 @@ carried side homes fetch t d x = eqb (occupies side homes x) d && ltb t (x.start
 -- none is, exactly if all of that disk have landed
 module _ (side : Side) (homes : List ℕ) (fetch : ℕ) (xs : List Exchange) (t d : ℕ) where
   pub landed_on : count (carried side homes fetch t d) xs ≡ 0 → (j : ℕ) → j < length xs → occupies side homes (get_or xs j none) ≡ d → (get_or xs j none).start + fetch ≤ t
-  landed_on e j l i =
-      let c = count_zero (carried side homes fetch t d) xs e j l in
-      let f = eq-eqb (occupies side homes (get_or xs j none)) d i in
-      ltb-false t ((get_or xs j none).start + fetch) (second (eqb (occupies side homes (get_or xs j none)) d) (ltb t ((get_or xs j none).start + fetch)) f c)
-    where
-      second : (x y : Bool) → x ≡ true → (x && y) ≡ false → y ≡ false
-      second true y e f = f
-      second false y e f = absurd (false≢true e)
+  landed_on e j l i = let c = count_zero (carried side homes fetch t d) xs e j l in grind (arith, nat_tests)
 
   pub all_landed : ((j : ℕ) → j < length xs → occupies side homes (get_or xs j none) ≡ d → (get_or xs j none).start + fetch ≤ t) → count (carried side homes fetch t d) xs ≡ 0
-  all_landed h = count_none (carried side homes fetch t d) xs (λ j l. off (get_or xs j none) (cases_eq (occupies side homes (get_or xs j none)) d) (h j l))
-    where
-      off : (x : Exchange) → (occupies side homes x ≡ d) ⊎ (occupies side homes x ≡ d → ⊥) → (occupies side homes x ≡ d → x.start + fetch ≤ t) → carried side homes fetch t d x ≡ false
-      off x (inl i) k = rw (eq-eqb (occupies side homes x) d i) (le-ltb t (x.start + fetch) (k i))
-      off x (inr i) k = rw (ne_eqb (occupies side homes x) d i)
+  all_landed h = count_none (carried side homes fetch t d) xs (λ j l. let m = h j l in grind (arith, nat_tests))
 
 module _ (side : Side) (homes : List ℕ) (frames fetch : ℕ) (requests : List ℕ) (lasts : 0 < fetch) (o : List ℕ) (a : List Act) (s : State)
     (h : Tells side homes fetch o a s.records s) where

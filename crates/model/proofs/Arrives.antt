@@ -29,10 +29,7 @@ during_front fetch o xs ys b t h r =
     omega arith
 
 pub not_over : (ph : Phase) (c : Command) → in_place ph c ≡ true → is_over ph ≡ false
-not_over Filling c e = refl
-not_over Standing c e = refl
-not_over Starting c e = refl
-not_over Over c e = absurd (false≢true e)
+not_over ph c e = grind arith
 
 -- a list with one more element is not empty
 some_push : {X : Type 0} (xs : List X) (x : X) (m : List X) → (xs ++ (x ∷ [])) ++ m ≡ [] → ⊥

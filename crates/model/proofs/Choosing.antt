@@ -9,14 +9,7 @@ use Rattle.std.proofs.lemmas.Option.{same_Some}
 
 -- four tests that all pass
 pub all_four : (p q r s : Bool) → all_of (p ∷ q ∷ r ∷ s ∷ []) ≡ true → (p ≡ true) × (q ≡ true) × (r ≡ true) × (s ≡ true)
-all_four true true true s e = (refl, refl, refl, four s e)
-  where
-    four : (s : Bool) → cond s true false ≡ true → s ≡ true
-    four true e = refl
-    four false e = e
-all_four true true false s e = absurd (false≢true e)
-all_four true false r s e = absurd (false≢true e)
-all_four false q r s e = absurd (false≢true e)
+all_four p q r s e = (grind arith, grind arith, grind arith, grind arith)
 
 pub four_all : (p q r s : Bool) → p ≡ true → q ≡ true → r ≡ true → s ≡ true → all_of (p ∷ q ∷ r ∷ s ∷ []) ≡ true
 four_all p q r s a b c d = rw (a, b, c, d)

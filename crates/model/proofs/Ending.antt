@@ -10,13 +10,13 @@ use Rattle.model.specs.Pass.{Course, can_serve, steps, is_over, asks_all, turn, 
 use Rattle.model.proofs.Seeing.{mark}
 use Rattle.model.proofs.Sound.{Sound, sound_waits, sound_serves}
 use Rattle.model.proofs.Turning.{Within, Stands, lands, blocked, behind, Ready, lands_by, blocked_by, behind_by, boundary_stands}
+use Rattle.std.proofs.lemmas.Bool.Decides.{nat_tests}
 
 away_later : (m : Mark) (t : ℕ) → is_away_at m t ≡ true → is_away_at m (t + 1) ≡ true
-away_later (Away g) t e = le-leb g (t + 1) (omega (arith, leb-true g t e))
-away_later (Here l) t e = e
+away_later m t e = grind (arith, nat_tests)
 
 not_here : (m : Mark) (l t : ℕ) → m ≡ Here l → is_here_at m t ≡ false → t < l
-not_here m l t e f = leb-false l t (subst (λ (x : Mark). is_here_at x t ≡ false) e f)
+not_here m l t e f = grind (arith, nat_tests)
 
 module _ (side : Side) (homes : List ℕ) (frames fetch : ℕ) (requests : List ℕ) (rule : Rule) (law : NeedLaw rule) (fit : Fit homes fetch) (o : List ℕ)
     (known : (i : ℕ) → i < length requests → get_or requests i 0 < length homes) where

@@ -88,10 +88,7 @@ is_filling Starting = false
 is_filling Over = false
 
 opens_only : {X : Type 0} (ph : Phase) (b : ℕ) → is_filling ph ≡ false → in_place ph (Opens b) ≡ true → X
-opens_only Filling b e h = absurd (false≢true (sym e))
-opens_only Standing b e h = absurd (false≢true h)
-opens_only Starting b e h = absurd (false≢true h)
-opens_only Over b e h = absurd (false≢true h)
+opens_only ph b e h = absurd (grind arith)
 
 -- The commands of a plan give the plan back.
 gather_opens : (bs o : List ℕ) (a : List Act) (xs : List Exchange) (cs : List Command) → gather o a xs (map Opens bs ++ cs) ≡ gather (o ++ bs) a xs cs

@@ -18,16 +18,10 @@ use Rattle.model.proofs.Agreeing.{carried, landed_on, all_landed}
 
 -- two conditions on a place, in one
 absent_not : (x y z : Bool) → (is_absent (cond x Place.Resident (cond y Place.Absent Place.InFlight)) && not z) ≡ true → (x ≡ false) × (y ≡ true) × (z ≡ false)
-absent_not true y z e = absurd (false≢true e)
-absent_not false true true e = absurd (false≢true e)
-absent_not false true false e = (refl, refl, refl)
-absent_not false false z e = absurd (false≢true e)
+absent_not x y z e = (grind arith, grind arith, grind arith)
 
 resident_not : (x y z : Bool) → (is_resident (cond x Place.Resident (cond y Place.Absent Place.InFlight)) && not z) ≡ true → (x ≡ true) × (z ≡ false)
-resident_not true y true e = absurd (false≢true e)
-resident_not true y false e = (refl, refl)
-resident_not false true z e = absurd (false≢true e)
-resident_not false false z e = absurd (false≢true e)
+resident_not x y z e = (grind arith, grind arith)
 
 module _ (side : Side) (homes : List ℕ) (frames fetch : ℕ) (requests : List ℕ) (room : ℕ) (o : List ℕ) (a : List Act) (xs : List Exchange) (fit : Fit homes fetch)
     (keeps : KeepsSoFar side homes frames fetch requests room o a xs) (position : ℕ) where

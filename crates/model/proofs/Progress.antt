@@ -139,8 +139,7 @@ module _ (side : Side) (homes : List ℕ) (frames fetch : ℕ) (requests : List 
 
     -- a block is not away and here
     apart : (m : Mark) (t : ℕ) → is_away_at m t ≡ true → is_here_at m t ≡ true → ⊥
-    apart (Away g) t e f = false≢true f
-    apart (Here l) t e f = false≢true e
+    apart m t e f = grind arith
 
     mark_in_by : (m : Mark) → (q ≡ p → ⊥) → MarkIs fetch o xs s.boundary p m → is_away_at m s.boundary ≡ true → HereFrom fetch o (xs ++ (fresh ∷ [])) s.boundary p (s.boundary + fetch)
     mark_in_by (Here l) ne k e = absurd (false≢true e)

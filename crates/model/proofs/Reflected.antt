@@ -121,11 +121,7 @@ module _ (side : Side) (homes : List ℕ) (frames fetch : ℕ) (requests : List 
       c = chained side homes frames fetch requests plan k b T
 
       left_over : (m n : ℕ) → n ≤ m → m ≤ n + 1 → m ≡ n + bit (eqb m (n + 1))
-      left_over m n i j = pick (cases_eq m (n + 1))
-        where
-          pick : (m ≡ n + 1) ⊎ (m ≡ n + 1 → ⊥) → m ≡ n + bit (eqb m (n + 1))
-          pick (inl e) = rw (eq-eqb m (n + 1) e) e
-          pick (inr e) = rw (ne_eqb m (n + 1) e) (omega arith)
+      left_over m n i j = grind (arith, nat_tests)
 
       go : (b < length homes) ⊎ (length homes ≤ b) → home plan.opening b + comings plan.exchanges b ≡ goings plan.exchanges b + home (closing (length homes) fetch plan) b
       go (inl l) =

@@ -8,6 +8,7 @@ use Rattle.model.specs.View.{Place, View, is_absent, is_resident, missing, may_g
 use Rattle.model.specs.Pass.{each, place_by, named_by, seen}
 use Rattle.model.proofs.Choosing.{lawful_parts, four_all, free_known}
 use Rattle.model.proofs.Answering.{first_at_lem, first_is}
+use Rattle.std.proofs.lemmas.Bool.Decides.{nat_tests}
 
 pub each_length : {X : Type 0} (f : ℕ → X) (n : ℕ) → length (each f n) ≡ n
 unfolding each
@@ -31,30 +32,12 @@ abbrev pub idle_from : State → ℕ → ℕ
 idle_from s d = get_or s.idle d 0
 
 missing_by : (fetch t : ℕ) (m : Mark) → (is_absent (place_by fetch t m) && not (named_by fetch t m)) ≡ is_away_at m t
-missing_by fetch t (Away g) = go (leb g t)
-  where
-    go : (x : Bool) → (is_absent (cond x Place.Absent Place.Resident) && not (not x)) ≡ x
-    go true = refl
-    go false = refl
-missing_by fetch t (Here l) = go (leb l t) (eqb l (t + fetch))
-  where
-    go : (x y : Bool) → (is_absent (cond x Place.Resident (cond y Place.Absent Place.InFlight)) && not (not x && y)) ≡ false
-    go true y = refl
-    go false true = refl
-    go false false = refl
+missing_by fetch t (Away g) = grind (arith, nat_tests)
+missing_by fetch t (Here l) = grind (arith, nat_tests)
 
 resident_by : (fetch t : ℕ) (m : Mark) → (is_resident (place_by fetch t m) && not (named_by fetch t m)) ≡ is_here_at m t
-resident_by fetch t (Away g) = go (leb g t)
-  where
-    go : (x : Bool) → (is_resident (cond x Place.Absent Place.Resident) && not (not x)) ≡ false
-    go true = refl
-    go false = refl
-resident_by fetch t (Here l) = go (leb l t) (eqb l (t + fetch))
-  where
-    go : (x y : Bool) → (is_resident (cond x Place.Resident (cond y Place.Absent Place.InFlight)) && not (not x && y)) ≡ x
-    go true y = refl
-    go false true = refl
-    go false false = refl
+resident_by fetch t (Away g) = grind (arith, nat_tests)
+resident_by fetch t (Here l) = grind (arith, nat_tests)
 
 -- a block is requested at or after a position
 pub record Requested (requests : List ℕ) (p b : ℕ) : Type 0 where

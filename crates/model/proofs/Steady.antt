@@ -19,15 +19,13 @@ pub record Steady (fetch : ℕ) (o : List ℕ) (xs : List Exchange) (b t : ℕ) 
   pub goes_after : left xs b (t + 1) ≤ home o b + landed fetch xs b t
   pub comes_after : home o b + brought xs b (t + 1) ≤ left xs b t + 1
 
-on_or_off : (p q : Bool) → (bit (p && q) ≡ 0) ⊎ ((p ≡ true) × (q ≡ true) × (bit (p && q) ≡ 1))
-on_or_off true true = inr (refl, refl, refl)
-on_or_off true false = inl refl
-on_or_off false q = inl refl
-
 steady_push : (side : Side) (homes : List ℕ) (fetch : ℕ) (o : List ℕ) (xs : List Exchange) (x : Exchange) → Lawful side homes fetch o xs x → Started xs x.start →
     (b t : ℕ) → Steady fetch o xs b t → Steady fetch o (xs ++ (x ∷ [])) b t
 steady_push side homes fetch o xs x law started b t h =
-    record { goes_after = low (on_or_off (eqb x.sends b) (ltb x.start (t + 1))); comes_after = high (on_or_off (eqb x.brings b) (ltb x.start (t + 1))) }
+    record {
+      goes_after = let a = lefts (t + 1) in let c = landeds in let d = h.goes_after in let e = sent in grind (arith, nat_tests);
+      comes_after = let a = lefts t in let c = broughts (t + 1) in let d = h.comes_after in let e = taken in grind (arith, nat_tests);
+    }
   where
     lefts : (u : ℕ) → left (xs ++ (x ∷ [])) b u ≡ left xs b u + bit (eqb x.sends b && ltb x.start u)
     lefts u = count_push (λ y. eqb y.sends b && ltb y.start u) xs x
@@ -45,16 +43,6 @@ steady_push side homes fetch o xs x law started b t h =
     taken : x.brings ≡ b → x.start < t + 1 → home o b + brought xs b (t + 1) ≤ left xs b t
     taken e l = subst (λ (c : ℕ). home o c + brought xs c (t + 1) ≤ left xs c t) e
         (omega (arith, law.comes, early_before in_of xs x.brings x.start started law.alone, early_some in_of xs x.brings (t + 1), early_grows out_of xs x.brings x.start t (omega arith)))
-
-    low : (bit (eqb x.sends b && ltb x.start (t + 1)) ≡ 0) ⊎ ((eqb x.sends b ≡ true) × (ltb x.start (t + 1) ≡ true) × (bit (eqb x.sends b && ltb x.start (t + 1)) ≡ 1)) →
-        left (xs ++ (x ∷ [])) b (t + 1) ≤ home o b + landed fetch (xs ++ (x ∷ [])) b t
-    low (inl e) = omega (arith, lefts (t + 1), landeds, h.goes_after)
-    low (inr e) = omega (arith, lefts (t + 1), landeds, e.2, sent (eqb-true x.sends b e.0) (ltb-true x.start (t + 1) e.1))
-
-    high : (bit (eqb x.brings b && ltb x.start (t + 1)) ≡ 0) ⊎ ((eqb x.brings b ≡ true) × (ltb x.start (t + 1) ≡ true) × (bit (eqb x.brings b && ltb x.start (t + 1)) ≡ 1)) →
-        home o b + brought (xs ++ (x ∷ [])) b (t + 1) ≤ left (xs ++ (x ∷ [])) b t + 1
-    high (inl e) = omega (arith, lefts t, broughts (t + 1), h.comes_after)
-    high (inr e) = omega (arith, lefts t, broughts (t + 1), e.2, taken (eqb-true x.brings b e.0) (ltb-true x.start (t + 1) e.1))
 
 steady_none : (fetch : ℕ) (o : List ℕ) (b t : ℕ) → Steady fetch o [] b t
 unfolding count

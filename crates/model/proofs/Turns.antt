@@ -18,10 +18,7 @@ module _ (side : Side) (homes : List ℕ) (frames fetch : ℕ) (requests : List 
     pub rests : rest' ≡ drop (size c) rest
 
   tests_before : (s : State) (rest : List ℕ) (ph : Phase) (f : Found) → is_over ph ≡ false → tests_at side homes frames fetch requests room s total rest ph f ≡ tests_of side homes frames fetch requests room s total rest f
-  tests_before s rest Filling f e = refl
-  tests_before s rest Standing f e = refl
-  tests_before s rest Starting f e = refl
-  tests_before s rest Over f e = absurd (false≢true (sym e))
+  tests_before s rest ph f e = grind arith
 
   went : (s : State) (rest : List ℕ) (s' : State) (rest' : List ℕ) (f : Found) → found rest ≡ f → (w : Finding) → first (tests_of side homes frames fetch requests room s total rest f) ≡ w →
       turn_by side homes frames fetch requests room s total rest f w ≡ Goes s' rest' → (c : Command) × Went s rest s' rest' c

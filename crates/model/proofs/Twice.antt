@@ -93,8 +93,7 @@ closing_content blocks fetch plan b l =
     }
   where
     passes : (t : Bool) → bit t ≡ 1 → t ≡ true
-    passes true h = refl
-    passes false h = absurd (omega arith)
+    passes t h = grind arith
 
 -- The exchanges of one boundary.
 starting_reverse : (t : ℕ) (xs : List Exchange) → starting_at t (reverse xs) ≡ reverse (starting_at t xs)

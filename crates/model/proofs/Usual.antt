@@ -9,6 +9,7 @@ use Rattle.model.specs.PassLaws.{Playable, FitOpening, OpeningsTold}
 use Rattle.model.proofs.Picked.{Rising, rising_room, rising_from, rising_each, rising_pairs, picked_rises, sum_below, sum_same, sum_both, sum_none, sum_one, length_picked, home_one}
 use Rattle.model.proofs.Seeing.{each_at, each_length}
 use Rattle.model.proofs.Choosing.{all_four}
+use Rattle.std.proofs.lemmas.Bool.Decides.{nat_tests}
 
 -- as many numbers are in a list of different numbers below n as the list is long
 abbrev Different : ℕ → List ℕ → Type 0
@@ -92,9 +93,7 @@ sum_ones f zero h = refl
 sum_ones f (suc n) h = omega (arith, sum_ones f n (λ b l. h b (omega arith)), h n (omega arith))
 
 one_or_none : (k : ℕ) → k ≤ 1 → bit (eqb k 1) ≡ k
-one_or_none zero l = refl
-one_or_none (suc zero) l = refl
-one_or_none (suc (suc k)) l = absurd (omega arith)
+one_or_none k l = grind (arith, nat_tests)
 
 module _ (n k : ℕ) (requests : List ℕ) (enough : k ≤ n) (known : (i : ℕ) → i < length requests → get_or requests i 0 < n) where
   abbrev listed : List ℕ

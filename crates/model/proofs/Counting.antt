@@ -59,11 +59,7 @@ count_split p q r (x ∷ xs) h =
 pub home_push_same : (os : List ℕ) (b : ℕ) → home (os ++ (b ∷ [])) b ≡ 1
 unfolding home
 home_push_same [] b = rw (eq-eqb b b refl)
-home_push_same (o ∷ os) b = go (eqb o b) (home_push_same os b)
-  where
-    go : (t : Bool) → home (os ++ (b ∷ [])) b ≡ 1 → one_or t (home (os ++ (b ∷ [])) b) ≡ 1
-    go true e = refl
-    go false e = e
+home_push_same (o ∷ os) b = let h = home_push_same os b in grind arith
 
 pub home_push_other : (os : List ℕ) (b c : ℕ) → (c ≡ b → ⊥) → home (os ++ (b ∷ [])) c ≡ home os c
 unfolding home

@@ -211,25 +211,20 @@ closed_to (Serves ∷ cs) ph o a xs e h = closed_to cs Standing o (a ++ (Serve �
 closed_to (Waits ∷ cs) ph o a xs e h = closed_to cs Standing o (a ++ (Wait ∷ [])) xs refl h.1
 closed_to (Ends ∷ cs) ph o a xs e h = closed_to cs Over o a xs refl h.1
 
+trades_in_place : (ph : Phase) (x : Exchange) → is_over ph ≡ false → in_place ph (trade_command x) ≡ true
+trades_in_place ph x e = grind arith
+
+act_in_place : (ph : Phase) (act : Act) → is_over ph ≡ false → in_place ph (act_command act) ≡ true
+act_in_place ph act e = grind arith
+
 trades_to : (ys : List Exchange) (ph : Phase) → is_over ph ≡ false → FormsTo ph (map trade_command ys)
 trades_to [] ph e = e
-trades_to (y ∷ ys) Filling e = (refl, trades_to ys Starting refl)
-trades_to (y ∷ ys) Standing e = (refl, trades_to ys Starting refl)
-trades_to (y ∷ ys) Starting e = (refl, trades_to ys Starting refl)
-trades_to (y ∷ ys) Over e = absurd (false≢true (sym e))
+trades_to (y ∷ ys) ph e = (trades_in_place ph y e, trades_to ys Starting refl)
 
 act_to : (ys : List Exchange) (ph : Phase) (act : Act) (cs : List Command) → is_over ph ≡ false → FormsTo Standing cs → FormsTo ph (map trade_command ys ++ (act_command act ∷ cs))
-act_to [] Filling Serve cs e h = (refl, h)
-act_to [] Filling Wait cs e h = (refl, h)
-act_to [] Standing Serve cs e h = (refl, h)
-act_to [] Standing Wait cs e h = (refl, h)
-act_to [] Starting Serve cs e h = (refl, h)
-act_to [] Starting Wait cs e h = (refl, h)
-act_to [] Over act cs e h = absurd (false≢true (sym e))
-act_to (y ∷ ys) Filling act cs e h = (refl, act_to ys Starting act cs refl h)
-act_to (y ∷ ys) Standing act cs e h = (refl, act_to ys Starting act cs refl h)
-act_to (y ∷ ys) Starting act cs e h = (refl, act_to ys Starting act cs refl h)
-act_to (y ∷ ys) Over act cs e h = absurd (false≢true (sym e))
+act_to [] ph Serve cs e h = (act_in_place ph Serve e, h)
+act_to [] ph Wait cs e h = (act_in_place ph Wait e, h)
+act_to (y ∷ ys) ph act cs e h = (trades_in_place ph y e, act_to ys Starting act cs refl h)
 
 steps_to : (acts : List Act) (t : ℕ) (ph : Phase) (xs ys : List Exchange) → is_over ph ≡ false → FormsTo ph (step_commands t acts xs ++ map trade_command ys)
 unfolding step_commands

@@ -47,11 +47,7 @@ rising_push low high (x ∷ xs) h = (h.0, rising_push (x + 1) high xs h.1)
 pub home_one : (xs : List ℕ) (b : ℕ) → home xs b ≤ 1
 unfolding home
 home_one [] b = omega arith
-home_one (x ∷ xs) b = go (eqb x b) (home_one xs b)
-  where
-    go : (t : Bool) → home xs b ≤ 1 → one_or t (home xs b) ≤ 1
-    go true h = omega arith
-    go false h = h
+home_one (x ∷ xs) b = let h = home_one xs b in grind arith
 
 -- what is picked rises
 pub picked_rises : (p : ℕ → Bool) (n : ℕ) → Rising 0 n (picked p n)

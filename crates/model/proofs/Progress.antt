@@ -236,18 +236,17 @@ module _ (side : Side) (homes : List ℕ) (frames fetch : ℕ) (requests : List 
         low d t k (inl i) = omega (arith, idle_same, ap (λ (n : ℕ). get_or idles n 0) i, each_last xs fresh none (λ _ y. occupies side homes y ≡ d → y.start + fetch ≤ t) k (sym i))
         low d t k (inr i) = omega (arith, get_or-set_other s.idle disk d (s.boundary + fetch) 0 i, h.idle_low d t (each_front xs (fresh ∷ []) none (λ _ y. occupies side homes y ≡ d → y.start + fetch ≤ t) k))
 
-  -- a step
-  pub tells_serves : (o : List ℕ) (a : List Act) (xs : List Exchange) (s : State) → Tells side homes fetch o a xs s →
-      Tells side homes fetch o (a ++ (Serve ∷ [])) xs (after side homes frames fetch requests room s Serves)
-  unfolding after served waited
-  tells_serves o a xs s h =
+  -- a step: what tells an act is the counts that it leaves
+  tells_step : (o : List ℕ) (a : List Act) (xs : List Exchange) (s : State) (act : Act) (p w : ℕ) → p ≡ served (a ++ (act ∷ [])) → w ≡ waited (a ++ (act ∷ [])) → Tells side homes fetch o a xs s →
+      Tells side homes fetch o (a ++ (act ∷ [])) xs (record { phase = Standing; opened = s.opened; floor = s.floor; position = p; boundary = s.boundary + 1; waits = w; landing = s.landing; marks = s.marks; idle = s.idle; records = s.records })
+  tells_step o a xs s act p w e f h =
       record {
         opened = h.opened;
         over_floor = h.over_floor;
         floor_low = h.floor_low;
-        position = omega (arith, h.position, served_append a (Serve ∷ []));
-        boundary = omega (arith, h.boundary, length_push a Serve);
-        waits = omega (arith, h.waits, waited_append a (Serve ∷ []));
+        position = e;
+        boundary = omega (arith, h.boundary, length_push a act);
+        waits = f;
         records = h.records;
         started = λ j l. omega (arith, h.started j l);
         landing_over = h.landing_over;
@@ -257,31 +256,18 @@ module _ (side : Side) (homes : List ℕ) (frames fetch : ℕ) (requests : List 
         idle_over = h.idle_over;
         idle_low = h.idle_low;
         size_idle = h.size_idle;
-        phase = (λ j l. omega (arith, h.started j l, h.boundary, length_push a Serve), omega (arith, length_push a Serve));
+        phase = (λ j l. omega (arith, h.started j l, h.boundary, length_push a act), omega (arith, length_push a act));
       }
+
+  pub tells_serves : (o : List ℕ) (a : List Act) (xs : List Exchange) (s : State) → Tells side homes fetch o a xs s →
+      Tells side homes fetch o (a ++ (Serve ∷ [])) xs (after side homes frames fetch requests room s Serves)
+  unfolding after served waited
+  tells_serves o a xs s h = tells_step o a xs s Serve (s.position + 1) s.waits (omega (arith, h.position, served_append a (Serve ∷ []))) (omega (arith, h.waits, waited_append a (Serve ∷ []))) h
 
   pub tells_waits : (o : List ℕ) (a : List Act) (xs : List Exchange) (s : State) → Tells side homes fetch o a xs s →
       Tells side homes fetch o (a ++ (Wait ∷ [])) xs (after side homes frames fetch requests room s Waits)
   unfolding after served waited
-  tells_waits o a xs s h =
-      record {
-        opened = h.opened;
-        over_floor = h.over_floor;
-        floor_low = h.floor_low;
-        position = omega (arith, h.position, served_append a (Wait ∷ []));
-        boundary = omega (arith, h.boundary, length_push a Wait);
-        waits = omega (arith, h.waits, waited_append a (Wait ∷ []));
-        records = h.records;
-        started = λ j l. omega (arith, h.started j l);
-        landing_over = h.landing_over;
-        landing_low = h.landing_low;
-        marks = λ b. mark_step fetch o xs s.boundary b (get_or s.marks b (Away 0)) h.started (h.marks b);
-        size_marks = h.size_marks;
-        idle_over = h.idle_over;
-        idle_low = h.idle_low;
-        size_idle = h.size_idle;
-        phase = (λ j l. omega (arith, h.started j l, h.boundary, length_push a Wait), omega (arith, length_push a Wait));
-      }
+  tells_waits o a xs s h = tells_step o a xs s Wait s.position (s.waits + 1) (omega (arith, h.position, served_append a (Wait ∷ []))) (omega (arith, h.waits, waited_append a (Wait ∷ []))) h
 
   pub tells_ends : (o : List ℕ) (a : List Act) (xs : List Exchange) (s : State) → Tells side homes fetch o a xs s →
       Tells side homes fetch o a xs (after side homes frames fetch requests room s Ends)

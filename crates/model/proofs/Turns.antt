@@ -51,14 +51,7 @@ module _ (side : Side) (homes : List ℕ) (frames fetch : ℕ) (requests : List 
   over_turn : (s : State) (rest : List ℕ) (ph : Phase) (f : Found) → is_over ph ≡ true →
       turn_by side homes frames fetch requests room s total rest f (first (tests_at side homes frames fetch requests room s total rest ph f))
       ≡ Stops (cond (within_limit total (total - length rest) 1) Verdict.OutOfPlace Verdict.OverLimit) (total - length rest)
-  over_turn s rest Filling f e = absurd (false≢true e)
-  over_turn s rest Standing f e = absurd (false≢true e)
-  over_turn s rest Starting f e = absurd (false≢true e)
-  over_turn s rest Over f e = go (within_limit total (total - length rest) 1)
-    where
-      go : (b : Bool) → turn_by side homes frames fetch requests room s total rest f (cond b (Faulty Verdict.OutOfPlace) (Faulty Verdict.OverLimit)) ≡ Stops (cond b Verdict.OutOfPlace Verdict.OverLimit) (total - length rest)
-      go true = refl
-      go false = refl
+  over_turn s rest ph f e = grind arith
 
   over_step : (s : State) (rest : List ℕ) → is_over s.phase ≡ true →
       step side homes frames fetch requests room total s rest ≡ Stops (cond (within_limit total (total - length rest) 1) Verdict.OutOfPlace Verdict.OverLimit) (total - length rest)
@@ -141,11 +134,7 @@ module _ (side : Side) (homes : List ℕ) (frames fetch : ℕ) (requests : List 
       let g : place_of d total (total - length rest) ≡ place = cc in
       (k ∙ ap Faulty e, sym g ∙ ap (λ (c : Cause). place_of c total (total - length rest)) e)
   stopped s rest cause place Missing Clean k h = absurd (cc)
-  stopped s rest cause place Strange Clean k h = go (within_limit total (total - length rest) 1) k
-    where
-      go : {X : Type 0} (b : Bool) → cond b (Faulty Verdict.OutOfPlace) (Faulty Verdict.OverLimit) ≡ Clean → X
-      go true e = absurd (cc)
-      go false e = absurd (cc)
+  stopped s rest cause place Strange Clean k h = absurd (grind arith)
   stopped s rest cause place (Known c) Clean k h = absurd (cc)
 
   -- a stop before the end tells the first test that fails

@@ -18,11 +18,7 @@ Different n (x ∷ xs) = (x < n) × (home xs x ≡ 0) × Different n xs
 
 home_cons : (x : ℕ) (xs : List ℕ) (b : ℕ) → home xs x ≡ 0 → home (x ∷ xs) b ≡ bit (eqb x b) + home xs b
 unfolding home
-home_cons x xs b e = go (cases_eq x b)
-  where
-    go : (x ≡ b) ⊎ (x ≡ b → ⊥) → one_or (eqb x b) (home xs b) ≡ bit (eqb x b) + home xs b
-    go (inl i) = let f : home xs b ≡ 0 = subst (λ (m : ℕ). home xs m ≡ 0) i e in rw (eq-eqb x b i) (omega arith)
-    go (inr i) = rw (ne_eqb x b i) (omega arith)
+home_cons x xs b e = grind (arith, nat_tests)
 
 sum_different : (n : ℕ) (xs : List ℕ) → Different n xs → sum_below (λ b. home xs b) n ≡ length xs
 unfolding home
@@ -46,11 +42,7 @@ home_own x xs = rw (eq-eqb x x refl)
 
 home_more : (x : ℕ) (xs : List ℕ) (b : ℕ) → home xs b ≡ 1 → home (x ∷ xs) b ≡ 1
 unfolding home
-home_more x xs b e = go (eqb x b)
-  where
-    go : (t : Bool) → one_or t (home xs b) ≡ 1
-    go true = refl
-    go false = e
+home_more x xs b e = grind arith
 
 finds : (n k : ℕ) (rs found : List ℕ) → Different n found → length found ≤ k → ((i : ℕ) → i < length rs → get_or rs i 0 < n) → Found n k rs found (different k found rs)
 unfolding different

@@ -107,7 +107,7 @@ filling Starting b a xs e h = absurd (false≢true e)
 filling Over b a xs e h = absurd (false≢true e)
 
 -- the end is in place where nothing has started
-resting : (ph : Phase) (a : List Act) (xs : List Exchange) → in_place ph Ends ≡ true → PhaseIs ph a xs → (j : ℕ) → j < length xs → (get_or xs j none).start < length a
+pub resting : (ph : Phase) (a : List Act) (xs : List Exchange) → in_place ph Ends ≡ true → PhaseIs ph a xs → (j : ℕ) → j < length xs → (get_or xs j none).start < length a
 resting Filling a xs e h j l = absurd (omega (arith, ap (λ (ys : List Exchange). length ys) h.1))
 resting Standing a xs e h j l = h.0 j l
 resting Starting a xs e h j l = absurd (false≢true e)

@@ -47,12 +47,10 @@ first_is v test l =
         (subst (λ (x : ℕ). test x ≡ false) (get_or-drop v.position v.requests (j - v.position) 0) (h.none_before (j - v.position) (omega (arith, h.is))))
 
 first_only : (requests : List ℕ) (p : ℕ) (test : ℕ → Bool) (k m : ℕ) → FirstIs requests p test k → FirstIs requests p test m → k ≡ m
-first_only requests p test k m f g = go (cases_order k m)
-  where
-    go : (k ≡ m) ⊎ ((k < m) ⊎ (m < k)) → k ≡ m
-    go (inl e) = e
-    go (inr (inl l)) = absurd (both_ways (test (get_or requests k 0)) (g.none_before k f.from l) (f.passes (omega (arith, g.within))))
-    go (inr (inr l)) = absurd (both_ways (test (get_or requests m 0)) (f.none_before m g.from l) (g.passes (omega (arith, f.within))))
+first_only requests p test k m f g =
+    let a = g.none_before k f.from in let b = f.passes in
+    let c = f.none_before m g.from in let d = g.passes in
+    let e = f.within in let h = g.within in grind arith
 
 pub firsts_exact : FirstsExact
 firsts_exact v test l = record { is = first_is v test l; only = λ k f. first_only v.requests v.position test k (first_from v test) f (first_is v test l) }
@@ -69,12 +67,9 @@ latest_is v test b e =
     }
 
 one_latest : (v : View) (test : ℕ → Bool) (b c : ℕ) → LatestIs v test b → LatestIs v test c → b ≡ c
-one_latest v test b c f g = go (cases_order b c)
-  where
-    go : (b ≡ c) ⊎ ((b < c) ⊎ (c < b)) → b ≡ c
-    go (inl e) = e
-    go (inr (inl l)) = absurd (omega (arith, g.lowest b f.goes f.passes l, f.latest c g.goes g.passes))
-    go (inr (inr l)) = absurd (omega (arith, f.lowest c g.goes g.passes l, g.latest b f.goes f.passes))
+one_latest v test b c f g =
+    let h = g.lowest b f.goes f.passes in let i = f.latest c g.goes g.passes in
+    let j = f.lowest c g.goes g.passes in let k = g.latest b f.goes f.passes in grind arith
 
 pub latests_exact : LatestsExact
 latests_exact v test = record {

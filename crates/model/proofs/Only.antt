@@ -38,9 +38,8 @@ module _ (side : Side) (homes : List ℕ) (frames fetch : ℕ) (requests o : Lis
     acts : take t p.acts ≡ take t q.acts
     starts : before t p.exchanges ≡ before t q.exchanges
 
-  act_cases : (x : Act) → (x ≡ Serve) ⊎ (x ≡ Wait)
-  act_cases Serve = inl refl
-  act_cases Wait = inr refl
+  same_act : (x y : Act) → (x ≡ Serve → y ≡ Serve) → (y ≡ Serve → x ≡ Serve) → x ≡ y
+  same_act x y h k = grind arith
 
   agree : (t : ℕ) → t ≤ length p.acts → t ≤ length q.acts → Agree t
   agree zero i j = record { acts = refl; starts = before_zero p.exchanges ∙ sym (before_zero q.exchanges) }
@@ -69,13 +68,9 @@ module _ (side : Side) (homes : List ℕ) (frames fetch : ℕ) (requests o : Lis
               (subst (λ (xs : List Exchange). ResidentDuring fetch o xs (wanted requests x.acts t) t) e (during_down fetch o x.exchanges (wanted requests x.acts t) t r)))
 
           one : get_or p.acts t Wait ≡ get_or q.acts t Wait
-          one = act (act_cases (get_or p.acts t Wait)) (act_cases (get_or q.acts t Wait))
-            where
-              act : (get_or p.acts t Wait ≡ Serve) ⊎ (get_or p.acts t Wait ≡ Wait) → (get_or q.acts t Wait ≡ Serve) ⊎ (get_or q.acts t Wait ≡ Wait) → get_or p.acts t Wait ≡ get_or q.acts t Wait
-              act (inl a) (inl b) = a ∙ sym b
-              act (inr a) (inr b) = a ∙ sym b
-              act (inl a) (inr b) = let c = g.serves_if t l (across p q same position (f.serves_only t k a)) in absurd (cc)
-              act (inr a) (inl b) = let c = f.serves_if t k (across q p (sym same) (sym position) (g.serves_only t l b)) in absurd (cc)
+          one = same_act (get_or p.acts t Wait) (get_or q.acts t Wait)
+              (λ a. g.serves_if t l (across p q same position (f.serves_only t k a)))
+              (λ b. f.serves_if t k (across q p (sym same) (sym position) (g.serves_only t l b)))
 
           more : take (t + 1) p.acts ≡ take (t + 1) q.acts
           more = take_more p.acts t Wait k ∙ (ap (λ (a : List Act). a ++ (get_or p.acts t Wait ∷ [])) h.acts

@@ -11,10 +11,7 @@ use Rattle.model.proofs.Progress.{Tells, tells_begin, tells_opens, each_push, ge
 use Rattle.model.proofs.Accepts.{Sofar}
 use Rattle.model.proofs.Picked.{Rising, rising_room, rising_from}
 use Rattle.model.proofs.Seeing.{mark, idle_from}
-use Rattle.model.proofs.Sound.{Sound, here_away, here_same}
-
-same_away : (m : Mark) (i j : ℕ) → m ≡ Away i → m ≡ Away j → i ≡ j
-same_away m i j e f = cc
+use Rattle.model.proofs.Sound.{Sound, here_away, here_same, away_same}
 
 module _ (side : Side) (homes : List ℕ) (frames fetch : ℕ) (requests : List ℕ) (fit : Fit homes fetch) where
   -- a state in its opening, with the blocks o listed so far
@@ -105,7 +102,7 @@ module _ (side : Side) (homes : List ℕ) (frames fetch : ℕ) (requests : List 
 
       zero_away : (b g : ℕ) → mark s b ≡ Away g → (mark s b ≡ Here 0) ⊎ (mark s b ≡ Away 0) → g ≤ s.boundary
       zero_away b g e (inl f) = here_away (mark s b) 0 g f e
-      zero_away b g e (inr f) = omega (arith, same_away (mark s b) g 0 e f)
+      zero_away b g e (inr f) = omega (arith, away_same (mark s b) g 0 e f)
 
       not_later : (b l : ℕ) → mark s b ≡ Here l → s.boundary < l → (mark s b ≡ Here 0) ⊎ (mark s b ≡ Away 0) → ⊥
       not_later b l e m (inl f) = omega (arith, here_same (mark s b) l 0 e f)

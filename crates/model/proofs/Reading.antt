@@ -103,15 +103,7 @@ drop_front Waits rest = refl
 drop_front Ends rest = refl
 
 pub length_front : (c : Command) (rest : List ℕ) → length (command_bytes c ++ rest) ≡ size c + length rest
-length_front (Opens b) rest = omega arith
-length_front (Trades a b) rest = omega arith
-length_front Serves rest = omega arith
-length_front Waits rest = omega arith
-length_front Ends rest = omega arith
+length_front c rest = grind arith
 
 pub size_some : (c : Command) → 0 < size c
-size_some (Opens b) = omega arith
-size_some (Trades a b) = omega arith
-size_some Serves = omega arith
-size_some Waits = omega arith
-size_some Ends = omega arith
+size_some c = grind arith

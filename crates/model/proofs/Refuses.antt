@@ -12,7 +12,7 @@ use Rattle.model.specs.Statements.{Fit, refused_with}
 use Rattle.model.proofs.Marks.{away_absent, absent_away, here_resident, resident_here, still_resident, early_none, in_of, out_of, early_before}
 use Rattle.model.proofs.Progress.{PhaseIs, Tells}
 use Rattle.model.proofs.Turns.{step_stops, over_refuses}
-use Rattle.model.proofs.Accepts.{StoppedAt, EndedAt, reads_bytes, ended_plan, ended_keeps, ended_read, ended_within}
+use Rattle.model.proofs.Accepts.{StoppedAt, EndedAt, reads_bytes, ended_plan, ended_keeps, ended_read, ended_within, filling, resting}
 use Rattle.std.proofs.lemmas.Bool.Decides.{nat_tests}
 
 -- tests and rules side by side, each test passing exactly if its rule holds
@@ -56,17 +56,11 @@ none_of : {A X : Type 0} (xs : List A) (j : ℕ) → xs ≡ [] → j < length xs
 none_of xs j e l = absurd (omega (arith, ap length e))
 
 place_holds : (ph : Phase) (a : List Act) (xs : List Exchange) → PhaseIs ph a xs → (c : Command) → in_place ph c ≡ true → InPlace a xs c
-place_holds Filling a xs h (Opens b) e = h
-place_holds Standing a xs h (Opens b) e = absurd (false≢true e)
-place_holds Starting a xs h (Opens b) e = absurd (false≢true e)
-place_holds Over a xs h (Opens b) e = absurd (false≢true e)
+place_holds ph a xs h (Opens b) e = filling ph b a xs e h
 place_holds ph a xs h (Trades p q) e = tt
 place_holds ph a xs h Serves e = tt
 place_holds ph a xs h Waits e = tt
-place_holds Filling a xs h Ends e = λ j l. none_of xs j h.1 l
-place_holds Standing a xs h Ends e = h.0
-place_holds Starting a xs h Ends e = absurd (false≢true e)
-place_holds Over a xs h Ends e = absurd (false≢true e)
+place_holds ph a xs h Ends e = resting ph a xs e h
 
 pub place_passes : (ph : Phase) (a : List Act) (xs : List Exchange) → is_over ph ≡ false → PhaseIs ph a xs → (c : Command) → InPlace a xs c → in_place ph c ≡ true
 place_passes Filling a xs o h c i = refl

@@ -22,7 +22,10 @@ here_is (Away g) t e = absurd (false≢true e)
 here_is (Here l) t e = (l, refl, leb-true l t e)
 
 pub here_away : {X : Type 0} (m : Mark) (l g : ℕ) → m ≡ Here l → m ≡ Away g → X
-here_away m l g e f = let z : ◌≡◌ {A = ℕ} 0 1 = cc in absurd (omega arith)
+here_away m l g e f = absurd (cc)
+
+pub away_same : (m : Mark) (g h : ℕ) → m ≡ Away g → m ≡ Away h → g ≡ h
+away_same m g h e f = cc
 
 pub here_same : (m : Mark) (l k : ℕ) → m ≡ Here l → m ≡ Here k → l ≡ k
 here_same m l k e f = cc
@@ -123,12 +126,9 @@ module _ (side : Side) (homes : List ℕ) (frames fetch : ℕ) (requests : List 
     away_new : (b g : ℕ) → mark next b ≡ Away g → (g ≡ s.boundary + 1) ⊎ (mark s b ≡ Away g)
     away_new b g e = go (cases_eq b p) (cases_eq b q)
       where
-        same : (m : Mark) (i j : ℕ) → m ≡ Away i → m ≡ Away j → i ≡ j
-        same m i j e f = cc
-
         go : (b ≡ p) ⊎ (b ≡ p → ⊥) → (b ≡ q) ⊎ (b ≡ q → ⊥) → (g ≡ s.boundary + 1) ⊎ (mark s b ≡ Away g)
         go (inl i) j = here_away (mark next p) (s.boundary + fetch) g new_in (subst (λ (n : ℕ). mark next n ≡ Away g) i e)
-        go (inr i) (inl j) = inl (same (mark next q) g (s.boundary + 1) (subst (λ (n : ℕ). mark next n ≡ Away g) j e) new_out)
+        go (inr i) (inl j) = inl (away_same (mark next q) g (s.boundary + 1) (subst (λ (n : ℕ). mark next n ≡ Away g) j e) new_out)
         go (inr i) (inr j) = inr (sym (new_other b i j) ∙ e)
 
     idle_cases : (d : ℕ) → ((idle_from next d ≡ s.boundary + fetch) × (idle_from s d ≤ s.boundary)) ⊎ (idle_from next d ≡ idle_from s d)

@@ -68,14 +68,10 @@ module _ (side : Side) (homes : List ℕ) (frames fetch : ℕ) (requests : List 
 -- a test that passes where another fails, and wherever that one passes, counts more
 count_more : (p q : Exchange → Bool) → ((x : Exchange) → bit (p x) ≤ bit (q x)) → (xs : List Exchange) (j : ℕ) → j < length xs → p (get_or xs j none) ≡ false → q (get_or xs j none) ≡ true →
     count p xs < count q xs
-count_more p q h xs j l e f = go (cases_lt (count p xs) (count q xs))
-  where
-    go : (count p xs < count q xs) ⊎ (count q xs ≤ count p xs) → count p xs < count q xs
-    go (inl i) = i
-    go (inr i) =
-        let a : bit (p (get_or xs j none)) ≡ 0 = ap bit e in
-        let c : bit (q (get_or xs j none)) ≡ 1 = ap bit f in
-        absurd (omega (arith, count_tight p q h xs (omega (arith, count_le p q h xs)) j l))
+count_more p q h xs j l e f =
+    let a = count_le p q h xs in
+    let c = λ (i : count p xs ≡ count q xs). count_tight p q h xs i j l in
+    grind arith
 
 -- an exchange counts from just after its start
 pub early_counts : (f : Exchange → ℕ) (xs : List Exchange) (j : ℕ) → j < length xs → early f xs (f (get_or xs j none)) (get_or xs j none).start < early f xs (f (get_or xs j none)) ((get_or xs j none).start + 1)

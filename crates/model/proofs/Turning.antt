@@ -127,16 +127,15 @@ module _ (side : Side) (homes : List ℕ) (frames fetch : ℕ) (requests : List 
       kept : (x : State) (p q : ℕ) → In x → Ahead side homes frames fetch requests x p q → Busy f x → Busy f (starts side homes frames fetch requests x p q)
       kept x p q w k h = record {
         away = subst (λ (m : Mark). is_away_at m t ≡ true) (sym (new_other side homes frames fetch requests fit o a x p q w.sound k.takes_it c not_in not_out)) h.away;
-        until = other_idle side homes frames fetch requests fit o a x p q w.sound k.takes_it (get_or homes c 0) (λ e. not_disk (e ∙ on side fw)) ∙ h.until;
+        until = other_idle side homes frames fetch requests fit o a x p q w.sound k.takes_it (get_or homes c 0) (λ e. not_disk (e ∙ on)) ∙ h.until;
       }
         where
-          on : (y : Side) → y ≡ Forward → occupies y homes (record { brings = p; sends = q; start = x.boundary }) ≡ get_or homes p 0
-          on Forward e = refl
-          on Backward e = absurd (cc)
+          on : occupies side homes (record { brings = p; sends = q; start = x.boundary }) ≡ get_or homes p 0
+          on = rw fw
 
           not_disk : get_or homes c 0 ≡ get_or homes p 0 → ⊥
           not_disk e =
-              let i : idle_from x (get_or homes p 0) ≤ x.boundary = subst (λ (d : ℕ). idle_from x d ≤ x.boundary) (on side fw) k.takes_it.idle in
+              let i : idle_from x (get_or homes p 0) ≤ x.boundary = subst (λ (d : ℕ). idle_from x d ≤ x.boundary) on k.takes_it.idle in
               let j : idle_from x (get_or homes p 0) ≡ f = subst (λ (d : ℕ). idle_from x d ≡ f) e h.until in
               omega (arith, w.boundary)
 
@@ -188,18 +187,10 @@ module _ (side : Side) (homes : List ℕ) (frames fetch : ℕ) (requests : List 
 
   -- nothing starts where need names none: backward, and forward where the disk of the block at the position is idle
   none_backward : side ≡ Backward → is_away_at (mark s c) t ≡ true → rule.need v ≡ None → (p q : ℕ) → Ahead side homes frames fetch requests s p q → ⊥
-  none_backward z e f p q k = no_takes e f q (takes_with e q k.takes_it.known_out k.takes_it.here (subst (λ (d : ℕ). idle_from s d ≤ t) (same side z) k.takes_it.idle))
-    where
-      same : (y : Side) → y ≡ Backward → occupies y homes (record { brings = p; sends = q; start = t }) ≡ occupies y homes (record { brings = c; sends = q; start = t })
-      same Backward i = refl
-      same Forward i = absurd (cc)
+  none_backward z e f p q k = no_takes e f q (takes_with e q k.takes_it.known_out k.takes_it.here (subst (λ (d : ℕ). idle_from s d ≤ t) (rw z) k.takes_it.idle))
 
   own_disk : side ≡ Forward → (q : ℕ) → get_or homes c 0 ≡ occupies side homes (record { brings = c; sends = q; start = t })
-  own_disk z q = go side z
-    where
-      go : (y : Side) → y ≡ Forward → get_or homes c 0 ≡ occupies y homes (record { brings = c; sends = q; start = t })
-      go Forward i = refl
-      go Backward i = absurd (cc)
+  own_disk z q = rw z
 
   none_forward : side ≡ Forward → idle_from s (get_or homes c 0) ≤ t → is_away_at (mark s c) t ≡ true → rule.need v ≡ None → (p q : ℕ) → Ahead side homes frames fetch requests s p q → ⊥
   none_forward z i e f p q k = no_takes e f q (takes_with e q k.takes_it.known_out k.takes_it.here (subst (λ (d : ℕ). idle_from s d ≤ t) (own_disk z q) i))

@@ -16,16 +16,13 @@ use Rattle.model.proofs.Turning.{Within, within_trades, one_disk, all_disks}
 use Rattle.model.proofs.Ending.{Runs, turn_goes, ready_fresh}
 use Rattle.model.proofs.Agreeing.{view_same}
 use Rattle.model.proofs.Gather.{before_all}
+use Rattle.std.proofs.lemmas.Bool.Decides.{nat_tests}
 
 -- what starts at boundary t leaves what started before an earlier one
 before_append : (u : ℕ) (xs ys : List Exchange) → before u (xs ++ ys) ≡ before u xs ++ before u ys
 unfolding before
 before_append u [] ys = refl
-before_append u (x ∷ xs) ys = go (ltb x.start u) (before_append u xs ys)
-  where
-    go : (t : Bool) → before u (xs ++ ys) ≡ before u xs ++ before u ys → front_if t x (before u (xs ++ ys)) ≡ front_if t x (before u xs) ++ before u ys
-    go true e = ap (λ (zs : List Exchange). x ∷ zs) e
-    go false e = e
+before_append u (x ∷ xs) ys = let e = before_append u xs ys in grind (arith, nat_tests)
 
 before_late : (u : ℕ) (x : Exchange) → u ≤ x.start → before u (x ∷ []) ≡ []
 unfolding before

@@ -6,6 +6,7 @@ use Rattle.model.specs.Timetable.{Exchange, none, Act, Serve, Wait, Plan}
 use Rattle.model.specs.PlanBytes.{Command, Opens, Trades, Serves, Waits, Ends, act_command, trade_command, starting_at, step_commands, plan_commands, so_far}
 use Rattle.model.specs.Verdict.{Phase, Filling, Standing, Starting, Over, is_over, in_place}
 use Rattle.model.specs.Follows.{before, front_if}
+use Rattle.std.proofs.lemmas.Bool.Decides.{nat_tests}
 
 abbrev pub gather : List ℕ → List Act → List Exchange → List Command → Plan
 gather o a xs [] = record { opening = o; acts = a; exchanges = xs }
@@ -126,15 +127,9 @@ before_more : (t : ℕ) (xs : List Exchange) → Ordered xs → before (t + 1) x
 unfolding before starting_at
 before_more t [] h = refl
 before_more t (x ∷ xs) h =
-    go (before_more t xs (λ i j k l. h (suc i) (suc j) (omega arith) (omega arith))) (cases_order x.start t)
-  where
-    go : before (t + 1) xs ≡ before t xs ++ starting_at t xs → (x.start ≡ t) ⊎ ((x.start < t) ⊎ (t < x.start)) →
-        front_if (ltb x.start (t + 1)) x (before (t + 1) xs) ≡ front_if (ltb x.start t) x (before t xs) ++ cond (eqb x.start t) (x ∷ starting_at t xs) (starting_at t xs)
-    go e (inl i) =
-        let n : before t xs ≡ [] = before_none t xs (λ j l. omega (arith, h 0 (suc j) (omega arith) (omega arith))) in
-        rw (lt-ltb x.start (t + 1) (omega arith), le-ltb x.start t (omega arith), eq-eqb x.start t i, e, n)
-    go e (inr (inl i)) = rw (lt-ltb x.start (t + 1) (omega arith), lt-ltb x.start t i, ne_eqb x.start t (λ (k : x.start ≡ t). omega arith), e)
-    go e (inr (inr i)) = rw (le-ltb x.start (t + 1) (omega arith), le-ltb x.start t (omega arith), ne_eqb x.start t (λ (k : x.start ≡ t). omega arith), e)
+    let e = before_more t xs (λ i j k l. h (suc i) (suc j) (omega arith) (omega arith)) in
+    let n = λ (i : x.start ≡ t). before_none t xs (λ j l. omega (arith, h 0 (suc j) (omega arith) (omega arith))) in
+    grind (arith, nat_tests)
 
 starting_starts : (t : ℕ) (xs : List Exchange) (j : ℕ) → j < length (starting_at t xs) → (get_or (starting_at t xs) j none).start ≡ t
 unfolding starting_at

@@ -22,11 +22,7 @@ length_trades (x ∷ xs) = let e = length_trades xs in omega arith
 length_starting : (t : ℕ) (xs : List Exchange) → length (starting_at t xs) ≡ count (λ x. eqb x.start t) xs
 unfolding starting_at count
 length_starting t [] = refl
-length_starting t (x ∷ xs) = go (eqb x.start t) (length_starting t xs)
-  where
-    go : (c : Bool) → length (starting_at t xs) ≡ count (λ y. eqb y.start t) xs → length (cond c (x ∷ starting_at t xs) (starting_at t xs)) ≡ bit c + count (λ y. eqb y.start t) xs
-    go true e = omega arith
-    go false e = omega arith
+length_starting t (x ∷ xs) = let e = length_starting t xs in grind (arith, nat_tests)
 
 -- counts of starts: before a boundary, at it, up to it
 at_or_before : (s t : ℕ) → bit (ltb s t) + bit (eqb s t) ≡ bit (leb s t)

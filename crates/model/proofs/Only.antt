@@ -6,17 +6,13 @@ use Rattle.model.specs.Timetable.{Exchange, none, Act, Serve, Wait, Side, Plan, 
 use Rattle.model.specs.Rules.{Rule}
 use Rattle.model.specs.Follows.{before, front_if, with_answers, Follows}
 use Rattle.model.proofs.Gather.{before_zero, before_all}
+use Rattle.std.proofs.lemmas.Bool.Decides.{nat_tests}
 
 -- a test that passes only before boundary u counts the same before it
 count_before : (p : Exchange → Bool) (u : ℕ) → ((x : Exchange) → p x ≡ true → x.start < u) → (xs : List Exchange) → count p (before u xs) ≡ count p xs
 unfolding count before
 count_before p u h [] = refl
-count_before p u h (x ∷ xs) = go (ltb x.start u) refl (p x) refl (count_before p u h xs)
-  where
-    go : (t : Bool) → ltb x.start u ≡ t → (y : Bool) → p x ≡ y → count p (before u xs) ≡ count p xs → count p (front_if t x (before u xs)) ≡ bit (p x) + count p xs
-    go true e y f k = ap (λ (n : ℕ). bit (p x) + n) k
-    go false e true f k = absurd (false≢true (sym e ∙ lt-ltb x.start u (h x f)))
-    go false e false f k = let z : bit (p x) ≡ 0 = ap bit f in omega arith
+count_before p u h (x ∷ xs) = let e = count_before p u h xs in let k = h x in grind (arith, nat_tests)
 
 -- what is resident during step t is told by the exchanges that start up to it
 pub during_before : (fetch : ℕ) (o : List ℕ) (xs : List Exchange) (b t : ℕ) →

@@ -175,11 +175,7 @@ sum_one c (suc n) l = go (cases_eq c n) (λ m. sum_one c n m)
 pub length_picked : (p : ℕ → Bool) (n : ℕ) → length (picked p n) ≡ sum_below (λ b. bit (p b)) n
 unfolding picked
 length_picked p zero = refl
-length_picked p (suc n) = go (p n) (length_picked p n)
-  where
-    go : (t : Bool) → length (picked p n) ≡ sum_below (λ b. bit (p b)) n → length (picked p n ++ cond t (n ∷ []) []) ≡ sum_below (λ b. bit (p b)) n + bit t
-    go true e = omega (arith, length_push (picked p n) n)
-    go false e = rw (append-nil (picked p n)) (omega arith)
+length_picked p (suc n) = let e = length_picked p n in grind (arith, length_push (picked p n) n, append-nil (picked p n))
 
 -- a rising list has as many as are in it
 pub length_rising : (n : ℕ) (xs : List ℕ) → Rising 0 n xs → length xs ≡ sum_below (λ b. home xs b) n

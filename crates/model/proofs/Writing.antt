@@ -4,16 +4,12 @@ use Rattle.std.proofs.lemmas.List.{append_assoc, append-nil, map-append, length_
 use Rattle.std.proofs.lemmas.Bool.{eq-eqb, ne_eqb}
 use Rattle.model.specs.Timetable.{Exchange, none, Act}
 use Rattle.model.specs.PlanBytes.{Command, Opens, Ends, act_command, trade_command, starting_at, step_commands, plan_commands, so_far}
+use Rattle.std.proofs.lemmas.Bool.Decides.{nat_tests}
 
 pub starting_append : (t : ℕ) (xs ys : List Exchange) → starting_at t (xs ++ ys) ≡ starting_at t xs ++ starting_at t ys
 unfolding starting_at
 starting_append t [] ys = refl
-starting_append t (x ∷ xs) ys = go (eqb x.start t) (starting_append t xs ys)
-  where
-    go : (b : Bool) → starting_at t (xs ++ ys) ≡ starting_at t xs ++ starting_at t ys →
-        cond b (x ∷ starting_at t (xs ++ ys)) (starting_at t (xs ++ ys)) ≡ cond b (x ∷ starting_at t xs) (starting_at t xs) ++ starting_at t ys
-    go true e = ap (λ (zs : List Exchange). x ∷ zs) e
-    go false e = e
+starting_append t (x ∷ xs) ys = let e = starting_append t xs ys in grind (arith, nat_tests)
 
 pub starting_one : (t : ℕ) (x : Exchange) → x.start ≡ t → starting_at t (x ∷ []) ≡ x ∷ []
 unfolding starting_at

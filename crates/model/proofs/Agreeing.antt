@@ -1,14 +1,13 @@
 -- What a rule sees of a state of the pass is what it sees of the plan so far, told by counting.
-use Rattle.std.proofs.Common.{◌≡◌, ℕ, zero, suc, ◌+◌, ◌-◌, ◌<◌, ◌≤◌, Bool, true, false, cond, not, ◌&&◌, eqb, ltb, leb, ◌⊎◌, List, [], ◌∷◌, map, length, get_or, sym, refl, ap, ◌∙◌, subst, inl, inr, arith}
+use Rattle.std.proofs.Common.{◌≡◌, ℕ, zero, suc, ◌+◌, ◌-◌, ◌<◌, ◌≤◌, Bool, true, false, ◌&&◌, eqb, ltb, leb, ◌⊎◌, List, [], ◌∷◌, map, length, get_or, sym, refl, ap, ◌∙◌, inl, inr, arith}
 use Rattle.std.proofs.lemmas.List.{get_or-map, length-map, ext_get_or}
-use Rattle.std.proofs.lemmas.Bool.{false≢true, leb-true, leb-false, le-leb, lt-leb, lt-ltb, le-ltb, ltb-false, eqb-true, eqb-false, eq-eqb, ne_eqb, cases_eq, cases_lt}
-use Rattle.model.specs.Timetable.{Exchange, none, Act, Side, occupies, bit, count, home, landed, brought, left}
+use Rattle.std.proofs.lemmas.Bool.{le-leb, lt-leb, eq-eqb, ne_eqb, cases_lt}
+use Rattle.model.specs.Timetable.{Exchange, none, Act, Side, occupies, bit, count}
 use Rattle.model.specs.Verdict.{Mark, Away, Here, State, most_disks}
-use Rattle.model.specs.View.{Place}
 use Rattle.model.specs.Pass.{each, place_by, named_by, seen}
 use Rattle.model.specs.Follows.{place_at, named_at, free_at, view_at}
-use Rattle.model.proofs.Counting.{count_same, count_none}
-use Rattle.model.proofs.Marks.{Started, MarkIs, HereFrom, comings, goings, early_all, out_of, in_of, landed_brought, early_some, AwayFrom}
+use Rattle.model.proofs.Counting.{count_none}
+use Rattle.model.proofs.Marks.{Started, MarkIs, HereFrom, early_all, out_of, in_of, landed_brought, early_some, AwayFrom}
 use Rattle.model.proofs.Progress.{Tells}
 use Rattle.model.proofs.Seeing.{mark, idle_from, each_at, each_length}
 use Rattle.model.proofs.Steady.{landed_started}

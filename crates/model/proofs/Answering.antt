@@ -1,12 +1,11 @@
 -- The questions that a rule can ask, each answered by the one thing it means.
-use Rattle.std.proofs.Common.{◌≡◌, ℕ, zero, suc, ◌+◌, ◌-◌, ◌<◌, ◌≤◌, Bool, true, false, cond, ◌&&◌, ltb, ◌⊎◌, List, [], ◌∷◌, length, get_or, drop, sym, refl, ap, ◌∙◌, subst, inl, inr, arith}
+use Rattle.std.proofs.Common.{◌≡◌, ℕ, zero, suc, ◌+◌, ◌-◌, ◌<◌, ◌≤◌, Bool, true, false, cond, ◌&&◌, List, [], ◌∷◌, length, get_or, drop, sym, refl, ap, ◌∙◌, subst, arith}
 use Rattle.std.proofs.lemmas.List.{length-drop, get_or-drop}
-use Rattle.std.proofs.lemmas.Bool.{false≢true, both_ways, ltb-true, ltb-false, and_parts, and_from, cases_order, cases_eq}
+use Rattle.std.proofs.lemmas.Bool.{false≢true, and_parts, and_from}
 use Rattle.model.specs.Timetable.{Forward}
-use Rattle.model.specs.View.{Option, None, Some, View, Absent, Resident, blocks, may_go_out, next_use, first_at, first_from, better_if, greatest, latest_of}
+use Rattle.model.specs.View.{Option, None, Some, View, Absent, Resident, blocks, may_go_out, next_use, first_at, first_from, latest_of}
 use Rattle.model.specs.ViewLaws.{FirstIs, FirstsExact, LatestIs, LatestsExact, SilenceBreaksTheLaw}
-use Rattle.model.proofs.Choosing.{latest_none, greatest_none, Top, top, known_out}
-use Rattle.std.proofs.lemmas.Option.{same_Some}
+use Rattle.model.proofs.Choosing.{latest_none, top, known_out}
 
 -- first, over a list whose head stands at a position
 pub record At (test : ℕ → Bool) (rs : List ℕ) (at k : ℕ) : Type 0 where

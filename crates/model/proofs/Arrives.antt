@@ -1,11 +1,11 @@
 -- The commands of a plan that keeps the model as far as it is read are all gone on from.
-use Rattle.std.proofs.Common.{◌≡◌, ℕ, zero, suc, ◌+◌, ◌-◌, ◌<◌, ◌≤◌, Bool, true, false, ◌&&◌, eqb, ltb, leb, List, [], ◌∷◌, ◌++◌, length, get_or, take, sym, refl, ap, ◌∙◌, subst, arith}
+use Rattle.std.proofs.Common.{◌≡◌, ℕ, zero, suc, ◌+◌, ◌-◌, ◌<◌, ◌≤◌, true, false, ◌&&◌, eqb, ltb, leb, List, [], ◌∷◌, ◌++◌, length, get_or, take, sym, refl, ap, ◌∙◌, subst, arith}
 use Rattle.std.specs.List.{flat_map}
 use Rattle.std.proofs.lemmas.List.{append_assoc, length-append, length_push, take-append-le, take_at, get_or_append_left, get_or_push, flat_map_more}
 use Rattle.std.proofs.lemmas.Bool.{false≢true, le-leb, lt-ltb, le-ltb, lt-leb, eq-eqb, and_right}
 use Rattle.model.specs.Timetable.{Exchange, none, Act, Serve, Wait, Side, Plan, Lawful, ResidentDuring, wanted, served, occupies, Keeps}
 use Rattle.model.specs.PlanBytes.{Command, Opens, Trades, Serves, Waits, Ends, command_bytes, plan_commands, plan_bytes, plan_limit, so_far}
-use Rattle.model.specs.Verdict.{Outcome, State, Phase, Filling, Standing, Starting, Over, is_over, in_place, Known, size, Turn, run, onward, after, within_limit, begin, verdict, Away, tests_of, own_tests}
+use Rattle.model.specs.Verdict.{Outcome, State, Phase, Standing, Starting, Over, is_over, in_place, Known, size, Turn, run, onward, after, within_limit, begin, verdict, Away, tests_of, own_tests}
 use Rattle.model.specs.Refusals.{KeepsSoFar}
 use Rattle.model.specs.Statements.{Fit}
 use Rattle.model.proofs.Counting.{count_append, count_none, served_append}

@@ -1,13 +1,13 @@
 -- How many exchanges a plan that keeps the model can have, and how large the plan of a pass is.
 use Rattle.std.proofs.Common.{◌≡◌, ℕ, zero, suc, ◌+◌, ◌*◌, ◌<◌, ◌≤◌, Bool, eqb, ◌⊎◌, List, [], ◌∷◌, ◌++◌, length, get_or, take, sym, ap, ◌∙◌, subst, inl, inr, mul_assoc, suc-mul, mul_comm, zero-mul, le_of_mul-le-mul_right, add-one, arith}
-use Rattle.std.proofs.lemmas.List.{take_more, take_all}
+use Rattle.std.proofs.lemmas.List.{take_all}
 use Rattle.std.proofs.lemmas.Bool.{eq-eqb, ne_eqb, cases_eq}
-use Rattle.model.specs.Timetable.{Exchange, none, Side, Forward, Backward, occupies, bit, count, KeepsPlainly}
+use Rattle.model.specs.Timetable.{Exchange, none, Side, occupies, bit, count, KeepsPlainly}
 use Rattle.model.specs.Verdict.{most_disks}
 use Rattle.model.specs.PassLaws.{FewExchanges}
 use Rattle.model.proofs.Counting.{count_push}
 use Rattle.model.proofs.Plainly.{plain_reading}
-use Rattle.model.proofs.Picked.{sum_below, sum_both, sum_none, sum_one}
+use Rattle.model.proofs.Picked.{sum_below}
 use Rattle.std.proofs.Math.Seq.{take-suc}
 use Rattle.model.proofs.Reflected.{sum_count}
 use Rattle.model.proofs.Progress.{on_disks}

@@ -1,6 +1,6 @@
 -- A pass ends: from its opening on, step by step, all requests are served in time.
 use Rattle.std.proofs.Common.{◌≡◌, ℕ, zero, suc, ◌+◌, ◌-◌, ◌*◌, ◌<◌, ◌≤◌, Bool, true, false, ◌⊎◌, List, length, get_or, sym, refl, ap, ◌∙◌, subst, inl, inr, mul-suc, arith}
-use Rattle.std.proofs.lemmas.Bool.{leb-true, leb-false, le-leb, eq-eqb, ne_eqb}
+use Rattle.std.proofs.lemmas.Bool.{le-leb, eq-eqb, ne_eqb}
 use Rattle.model.specs.Timetable.{Side}
 use Rattle.model.specs.PlanBytes.{Waits}
 use Rattle.model.specs.Verdict.{Mark, Away, Here, is_away_at, is_here_at, State, after}

@@ -1,5 +1,5 @@
 -- The plan of a pass is the one plan that follows its rule.
-use Rattle.std.proofs.Common.{ℕ, ◌*◌, ◌<◌, List, [], length, sym, refl, subst, arith}
+use Rattle.std.proofs.Common.{ℕ, ◌*◌, List, [], length, sym, refl, subst, arith}
 use Rattle.model.specs.Timetable.{Exchange, Side, Plan, wanted}
 use Rattle.model.specs.Rules.{Rule, NeedLaw}
 use Rattle.model.specs.Pass.{passed, plan_from}

@@ -1,5 +1,5 @@
 -- The plan of a pass follows its rule.
-use Rattle.std.proofs.Common.{◌≡◌, ℕ, zero, suc, ◌+◌, ◌-◌, ◌<◌, ◌≤◌, Bool, true, false, cond, ltb, ◌⊎◌, List, [], ◌∷◌, ◌++◌, length, get_or, take, sym, refl, ap, ◌∙◌, subst, inl, inr, arith}
+use Rattle.std.proofs.Common.{◌≡◌, ℕ, zero, suc, ◌+◌, ◌-◌, ◌<◌, ◌≤◌, Bool, true, false, cond, ◌⊎◌, List, [], ◌∷◌, ◌++◌, length, get_or, take, sym, refl, ap, ◌∙◌, subst, inl, inr, arith}
 use Rattle.std.proofs.lemmas.List.{append-nil, length_push, get_or_append_left, get_or_push, take-append-le, take_at}
 use Rattle.std.proofs.lemmas.Bool.{both_ways, le-ltb, eqb-false, cases_eq}
 use Rattle.model.specs.Timetable.{Exchange, none, Act, Serve, Wait, Side, served, wanted, ResidentDuring}
@@ -8,7 +8,7 @@ use Rattle.model.specs.Statements.{Fit}
 use Rattle.model.specs.View.{Option, None, Some, View, missing, is_free, wanted_block}
 use Rattle.model.specs.Rules.{Rule, NeedLaw}
 use Rattle.model.specs.Pass.{Course, seen, starts, due, screened, takes_need, takes_ahead, can_serve, steps, is_over, asks_need, asks_ahead, asks_disks, asks_all, turn, next_by, runs}
-use Rattle.model.specs.Follows.{before, front_if, view_at, on_need, on_ahead, need_starts, ahead_starts, with_disks, with_answers}
+use Rattle.model.specs.Follows.{before, view_at, on_need, on_ahead, need_starts, ahead_starts, with_disks, with_answers}
 use Rattle.model.proofs.Marks.{resident_here}
 use Rattle.model.proofs.Seeing.{mark, lawful_takes}
 use Rattle.model.proofs.Sound.{later_sound}

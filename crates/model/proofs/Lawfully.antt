@@ -1,14 +1,13 @@
 -- Lawful to a rule and lawful in the model are one.
-use Rattle.std.proofs.Common.{◌≡◌, ℕ, ◌+◌, ◌<◌, ◌≤◌, Bool, true, false, cond, not, ◌&&◌, eqb, ltb, ◌⊎◌, List, length, get_or, take, sym, refl, ap, ◌∙◌, subst, inl, inr, arith}
-use Rattle.std.proofs.lemmas.Bool.{false≢true, and_parts, and_from, eqb-true, eq-eqb, ne_eqb, lt-ltb, ltb-false, le-ltb, not-false, cases_eq}
-use Rattle.model.specs.Timetable.{Exchange, none, Act, Side, Forward, Backward, occupies, count, home, landed, brought, left, Lawful, Resident, Absent}
+use Rattle.std.proofs.Common.{◌≡◌, ℕ, ◌+◌, ◌<◌, Bool, true, false, cond, not, ◌&&◌, eqb, List, length, get_or, take, sym, ap, ◌∙◌, subst, arith}
+use Rattle.std.proofs.lemmas.Bool.{and_parts, and_from, eqb-true, eq-eqb, ne_eqb, lt-ltb, not-false}
+use Rattle.model.specs.Timetable.{Exchange, none, Act, Side, occupies, count, home, landed, brought, left, Lawful, Resident, Absent}
 use Rattle.model.specs.Verdict.{most_disks}
 use Rattle.model.specs.Statements.{Fit}
 use Rattle.model.specs.Refusals.{KeepsSoFar}
 use Rattle.model.specs.View.{Place, is_absent, is_resident, View, missing, may_go_out, lawful, is_free}
 use Rattle.model.specs.Follows.{place_at, named_at, free_at, view_at}
 use Rattle.model.specs.ViewLaws.{LawfulExact}
-use Rattle.model.proofs.Counting.{count_none}
 use Rattle.model.proofs.Marks.{Started, comings, goings, early_all, out_of, in_of, landed_brought, early_none, early_before}
 use Rattle.model.proofs.Plainly.{early_front, landed_front}
 use Rattle.model.proofs.Seeing.{each_at, disk_late}

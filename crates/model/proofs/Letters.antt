@@ -1,11 +1,11 @@
 -- The letter of a step stands where the bytes before it end.
-use Rattle.std.proofs.Common.{◌≡◌, ℕ, zero, suc, ◌+◌, ◌*◌, ◌<◌, ◌≤◌, Bool, true, false, cond, eqb, ltb, leb, ◌⊎◌, List, [], ◌∷◌, ◌++◌, map, length, get_or, take, drop, sym, refl, ap, ◌∙◌, subst, inl, inr, add-zero, arith}
+use Rattle.std.proofs.Common.{◌≡◌, ℕ, suc, ◌+◌, ◌*◌, ◌<◌, eqb, ltb, leb, List, [], ◌∷◌, ◌++◌, map, length, get_or, take, drop, sym, refl, ap, ◌∙◌, add-zero, arith}
 use Rattle.std.specs.List.{flat_map}
 use Rattle.std.proofs.lemmas.List.{append_assoc, length-append, length-take-le, take-append-drop, drop_more, get_or_at}
-use Rattle.std.proofs.lemmas.Bool.{eq-eqb, ne_eqb, lt-ltb, le-ltb, le-leb, lt-leb, cases_order}
+use Rattle.std.proofs.lemmas.Bool.{le-ltb}
 use Rattle.model.specs.Timetable.{Exchange, none, bit, count, Act, Serve, Wait, Plan}
 use Rattle.model.specs.PlanBytes.{Command, Opens, Ends, command_bytes, act_command, trade_command, starting_at, step_commands, plan_commands, plan_bytes}
-use Rattle.model.specs.Layout.{letter, started_by, letter_at, StepLetters}
+use Rattle.model.specs.Layout.{letter, letter_at, StepLetters}
 use Rattle.model.proofs.Counting.{count_none, count_split}
 use Rattle.std.proofs.lemmas.List.Concat.{flat_map-append}
 use Rattle.std.proofs.lemmas.Bool.Decides.{nat_tests}

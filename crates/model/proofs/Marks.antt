@@ -1,7 +1,7 @@
 -- What a mark of a block, or of a disk, says of the exchanges so far, and how one more exchange or one more step
 -- keeps that true.
-use Rattle.std.proofs.Common.{◌≡◌, ℕ, ◌+◌, ◌<◌, ◌≤◌, Bool, true, false, ◌&&◌, eqb, ltb, leb, ◌⊎◌, List, [], ◌∷◌, ◌++◌, length, get_or, sym, refl, ap, inl, inr, arith}
-use Rattle.std.proofs.lemmas.Bool.{false≢true, eqb-true, eq-eqb, ne_eqb, cases_lt, lt-ltb, le-ltb, le-leb, lt-leb, leb-true}
+use Rattle.std.proofs.Common.{◌≡◌, ℕ, ◌+◌, ◌<◌, ◌≤◌, true, ◌&&◌, eqb, ltb, leb, List, [], ◌∷◌, ◌++◌, length, get_or, refl, ap, arith}
+use Rattle.std.proofs.lemmas.Bool.{false≢true, eq-eqb, ne_eqb, le-leb, leb-true}
 use Rattle.model.specs.Timetable.{Exchange, none, bit, count, home, landed, brought, left, Resident, Absent, ResidentDuring}
 use Rattle.model.specs.Verdict.{Mark, Here, Away, is_here_at, is_away_at}
 use Rattle.model.proofs.Counting.{count_push, count_same, count_le, count_tight}

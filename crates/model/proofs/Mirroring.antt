@@ -1,6 +1,5 @@
 -- The mirror of a plan that keeps the model keeps it on the opposite side, for the requests reversed.
 use Rattle.std.proofs.Common.{◌≡◌, ℕ, ◌+◌, ◌-◌, ◌<◌, ◌≤◌, List, [], ◌∷◌, ◌++◌, map, reverse, length, get_or, take, drop, sym, refl, ap, ◌∙◌, subst, arith}
-use mathlib.Core.List.{reverse-cons}
 use Rattle.std.proofs.lemmas.List.{get_or-reverse, get_or-map, length-map, length-reverse, length-drop, reverse-append, take-append-drop, take_at, take_more}
 use Rattle.model.specs.Timetable.{Exchange, none, Side, Forward, Backward, opposite, Act, Serve, Wait, Plan, Keeps, KeepsPlainly, Resident, Absent, ResidentDuring, occupies, served, waited, wanted}
 use Rattle.model.specs.Mirror.{remains, closing, reflected, mirrored}

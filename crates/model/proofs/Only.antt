@@ -1,10 +1,10 @@
 -- At most one plan follows a rule.
-use Rattle.std.proofs.Common.{◌≡◌, ℕ, zero, suc, ◌+◌, ◌<◌, ◌≤◌, Bool, true, false, ◌&&◌, eqb, ltb, leb, ◌⊎◌, List, [], ◌∷◌, ◌++◌, length, get_or, take, sym, refl, ap, ◌∙◌, subst, inl, inr, add-one, arith}
+use Rattle.std.proofs.Common.{◌≡◌, ℕ, zero, suc, ◌+◌, ◌<◌, ◌≤◌, Bool, true, ◌&&◌, eqb, ltb, leb, ◌⊎◌, List, [], ◌∷◌, ◌++◌, length, get_or, take, sym, refl, ap, ◌∙◌, subst, inl, inr, add-one, arith}
 use Rattle.std.proofs.lemmas.List.{take_more, take_all}
-use Rattle.std.proofs.lemmas.Bool.{false≢true, lt-ltb, ltb-true, leb-true, le-ltb, cases_order, and_parts}
-use Rattle.model.specs.Timetable.{Exchange, none, Act, Serve, Wait, Side, Plan, bit, count, home, landed, left, served, wanted, ResidentDuring}
+use Rattle.std.proofs.lemmas.Bool.{ltb-true, leb-true, cases_order, and_parts}
+use Rattle.model.specs.Timetable.{Exchange, Act, Serve, Wait, Side, Plan, count, home, landed, left, served, wanted, ResidentDuring}
 use Rattle.model.specs.Rules.{Rule}
-use Rattle.model.specs.Follows.{before, front_if, with_answers, Follows}
+use Rattle.model.specs.Follows.{before, with_answers, Follows}
 use Rattle.model.proofs.Gather.{before_zero, before_all}
 use Rattle.std.proofs.lemmas.Bool.Decides.{nat_tests}
 

@@ -1,11 +1,9 @@
 -- Each block is in exactly one place at each boundary of a plan that keeps the model.
-use Rattle.std.proofs.Common.{◌≡◌, ℕ, zero, suc, ◌+◌, ◌<◌, ◌≤◌, Bool, true, false, ◌&&◌, eqb, ltb, leb, ◌⊎◌, List, [], ◌∷◌, ◌++◌, length, get_or, take, sym, refl, ap, subst, inl, inr, add-one, arith}
-use Rattle.std.proofs.lemmas.List.{take_more, take_all, length-take-le, get_or-take}
-use Rattle.std.proofs.lemmas.Bool.{eqb-true, ltb-true, lt-ltb, leb-true, le-leb, cases_eq}
-use Rattle.model.specs.Timetable.{Exchange, none, Side, Plan, Keeps, Lawful, Resident, InFlight, Absent, home, landed, brought, left, count, bit, one_or}
+use Rattle.std.proofs.Common.{◌≡◌, ℕ, ◌+◌, ◌≤◌, ◌⊎◌, List, inl, inr, arith}
+use Rattle.std.proofs.lemmas.Bool.{cases_eq}
+use Rattle.model.specs.Timetable.{Exchange, Side, Plan, Keeps, Resident, InFlight, Absent, home, landed, brought, left}
 use Rattle.model.specs.Statements.{OnePlace}
-use Rattle.model.proofs.Counting.{count_push, count_le}
-use Rattle.model.proofs.Marks.{Started, early_before, in_of, out_of, early_some, landed_brought, early_grows}
+use Rattle.model.proofs.Marks.{in_of, out_of, landed_brought, early_grows}
 use Rattle.model.proofs.Steady.{steady}
 
 -- left, landed and brought stay within one of each other

@@ -3,7 +3,7 @@ use Rattle.std.proofs.Common.{◌≡◌, ℕ, ◌+◌, ◌*◌, ◌/◌, ◌%◌
 use lib.Dec.{eqb-suc-zero}
 use Rattle.std.proofs.lemmas.Bool.Decides.{nat_tests}
 use Rattle.model.specs.PlanBytes.{Command, Opens, Trades, Serves, Waits, Ends, command_bytes, low, high}
-use Rattle.model.specs.Verdict.{Missing, Known, found, by_letter, block, size, Test, Clean, Faulty, first, Cause}
+use Rattle.model.specs.Verdict.{Missing, Known, found, by_letter, block, size, Test, Clean, Faulty, first}
 
 -- Tests of a list that all pass.
 abbrev pub AllPass : List Test → Type 0

@@ -1,10 +1,9 @@
 -- What the mirror of a plan counts, beside what the plan counts.
-use Rattle.std.proofs.Common.{◌≡◌, ℕ, suc, ◌+◌, ◌-◌, ◌<◌, ◌≤◌, Bool, true, false, ◌&&◌, eqb, ltb, leb, ◌⊎◌, List, [], ◌∷◌, ◌++◌, map, reverse, length, get_or, refl, ap, ◌∙◌, inl, inr, arith}
-use mathlib.Core.List.{reverse-cons}
-use Rattle.std.proofs.lemmas.Bool.{ne_eqb, eq-eqb, lt-ltb, le-ltb, le-leb, lt-leb, cases_lt, cases_eq}
+use Rattle.std.proofs.Common.{◌≡◌, ℕ, suc, ◌+◌, ◌-◌, ◌<◌, ◌≤◌, Bool, true, false, ◌&&◌, eqb, ltb, leb, ◌⊎◌, List, [], ◌∷◌, map, reverse, length, get_or, refl, ap, ◌∙◌, inl, inr, arith}
+use Rattle.std.proofs.lemmas.Bool.{ne_eqb, cases_lt}
 use Rattle.model.specs.Timetable.{Exchange, none, Side, Plan, Keeps, KeepsPlainly, home, landed, brought, left, count, bit}
 use Rattle.model.specs.Mirror.{remains, closing, reflected}
-use Rattle.model.proofs.Counting.{count_push, count_same, count_none, count_split, same_reversed, count_append}
+use Rattle.model.proofs.Counting.{count_same, count_none, count_split, same_reversed, count_append}
 use Rattle.model.proofs.Marks.{comings, goings, landed_brought, early_grows, in_of, out_of, early_before}
 use Rattle.model.proofs.Plainly.{plain_reading}
 use Rattle.model.proofs.Places.{Chained, chained}

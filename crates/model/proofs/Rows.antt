@@ -1,15 +1,13 @@
 -- The worked rows, computed; and what follows for the model.
-use Rattle.std.proofs.Common.{◌≡◌, ℕ, zero, suc, ◌+◌, ◌*◌, ◌<◌, ◌≤◌, Bool, true, ◌&&◌, ltb, List, [], ◌∷◌, ◌++◌, length, get_or, sym, refl, ap, ◌∙◌, arith}
-use Rattle.std.specs.List.{flat_map, list_all}
-use Rattle.std.proofs.lemmas.List.{length_push}
-use Rattle.std.proofs.lemmas.Bool.{ltb-true, and_parts}
-use Rattle.model.specs.Timetable.{Forward, Plan, Exchange, Act, Serve, Wait}
-use Rattle.model.specs.PlanBytes.{Command, Opens, Trades, Serves, Waits, Ends, command_bytes, plan_commands, plan_bytes}
+use Rattle.std.proofs.Common.{◌≡◌, ℕ, ◌<◌, true, ltb, List, length, get_or, sym, refl, ap, arith}
+use Rattle.std.specs.List.{list_all}
+use Rattle.std.proofs.lemmas.Bool.{ltb-true}
+use Rattle.model.specs.Timetable.{Forward}
+use Rattle.model.specs.PlanBytes.{plan_bytes}
 use Rattle.model.specs.Verdict.{Accepted, Refused, NotLanded, Outcome, verdict, run, step, after, found, blank_marks, blank_idle, most_disks}
-use Rattle.model.specs.Statements.{Fit, Formed}
+use Rattle.model.specs.Statements.{Fit}
 use Rattle.model.specs.Worked.{WorkedRows, WorkedEdges, ModelTells, homes6, requests6, early6, late6}
 use Rattle.model.proofs.Exact.{accepts_exactly}
-use Rattle.model.proofs.Gather.{gather, gather_plan}
 use Rattle.model.proofs.Once.{keeps_form}
 use Rattle.std.proofs.lemmas.List.Sums.{AllPass-from_list_all}
 use Rattle.model.proofs.Sizes.{plan_size}

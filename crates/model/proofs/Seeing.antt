@@ -1,10 +1,10 @@
 -- What a rule sees of a state, and what the state itself tells: the same.
-use Rattle.std.proofs.Common.{◌≡◌, ℕ, zero, suc, ◌+◌, ◌<◌, ◌≤◌, Bool, true, false, cond, not, ◌&&◌, eqb, leb, ◌⊎◌, List, [], ◌∷◌, ◌++◌, map, length, get_or, drop, sym, refl, ap, ◌∙◌, subst, inl, inr, arith}
-use Rattle.std.proofs.lemmas.List.{get_or_append_left, get_or_push, length_push, get_or-map, get_or_past, length-map, length-drop, get_or-drop}
-use Rattle.std.proofs.lemmas.Bool.{both_ways, leb-true, le-leb, eqb-true, lt-ltb, cases_eq, cases_lt}
+use Rattle.std.proofs.Common.{◌≡◌, ℕ, zero, suc, ◌<◌, ◌≤◌, true, false, not, ◌&&◌, eqb, leb, ◌⊎◌, List, [], ◌∷◌, ◌++◌, length, get_or, drop, sym, refl, ap, ◌∙◌, subst, inl, inr, arith}
+use Rattle.std.proofs.lemmas.List.{get_or_append_left, get_or_push, length_push, get_or-map, length-map}
+use Rattle.std.proofs.lemmas.Bool.{leb-true, le-leb, eqb-true, lt-ltb, cases_eq}
 use Rattle.model.specs.Timetable.{Side, Forward, Backward, occupies}
 use Rattle.model.specs.Verdict.{Mark, Away, Here, is_away_at, is_here_at, State}
-use Rattle.model.specs.View.{Place, View, is_absent, is_resident, missing, may_go_out, lawful, is_free, disk_of, next_use, first_at}
+use Rattle.model.specs.View.{Place, View, is_absent, is_resident, missing, may_go_out, lawful, is_free, disk_of, next_use}
 use Rattle.model.specs.Pass.{each, place_by, named_by, seen}
 use Rattle.model.proofs.Choosing.{lawful_parts, four_all, free_known}
 use Rattle.model.proofs.Answering.{first_at_lem, first_is}

@@ -1,14 +1,14 @@
 -- What holds of a pass at every moment, and how a start and a step keep it.
-use Rattle.std.proofs.Common.{◌≡◌, ℕ, ◌+◌, ◌<◌, ◌≤◌, true, ◌⊎◌, List, [], ◌∷◌, ◌++◌, length, get_or, take, set, sym, refl, ap, ◌∙◌, subst, inl, inr, arith}
-use Rattle.std.proofs.lemmas.List.{get_or_append_left, get_or-set_same, get_or-set_other, length-set, take-append-le, take_at}
+use Rattle.std.proofs.Common.{◌≡◌, ℕ, ◌+◌, ◌<◌, ◌≤◌, true, ◌⊎◌, List, [], ◌∷◌, ◌++◌, length, get_or, set, sym, refl, ◌∙◌, subst, inl, inr, arith}
+use Rattle.std.proofs.lemmas.List.{get_or-set_same, get_or-set_other, length-set}
 use Rattle.std.proofs.lemmas.Bool.{false≢true, leb-true, cases_eq}
-use Rattle.model.specs.Timetable.{Exchange, none, Act, Serve, Wait, Side, Forward, Backward, occupies, Lawful, ResidentDuring, wanted, served}
+use Rattle.model.specs.Timetable.{Exchange, Act, Serve, Wait, Side, occupies, ResidentDuring, served}
 use Rattle.model.specs.PlanBytes.{Serves, Waits}
 use Rattle.model.specs.Verdict.{Mark, Away, Here, is_away_at, is_here_at, State, after, most_disks}
 use Rattle.model.specs.Statements.{Fit}
 use Rattle.model.specs.Pass.{starts}
-use Rattle.model.proofs.Marks.{Started, here_resident, landed_late, early_late, out_of}
-use Rattle.model.proofs.Progress.{Tells, tells_trades, tells_serves, tells_waits, lawful_from, each_push, on_disks}
+use Rattle.model.proofs.Marks.{here_resident}
+use Rattle.model.proofs.Progress.{Tells, tells_trades, tells_serves, tells_waits, lawful_from, on_disks}
 use Rattle.model.proofs.Accepts.{Sofar, sofar_trades, sofar_act}
 use Rattle.model.proofs.Seeing.{mark, idle_from, Requested, Takes}
 

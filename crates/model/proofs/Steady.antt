@@ -1,8 +1,8 @@
 -- What a block does in time, in a plan that keeps the model: it is not brought in again before it has gone, and it
 -- does not go before it has landed.
-use Rattle.std.proofs.Common.{◌≡◌, ℕ, zero, suc, ◌+◌, ◌<◌, ◌≤◌, Bool, true, false, ◌&&◌, eqb, ltb, leb, ◌⊎◌, List, [], ◌∷◌, ◌++◌, length, get_or, take, sym, refl, ap, subst, inl, inr, add-one, arith}
-use Rattle.std.proofs.lemmas.List.{take_more, take_all, length-take-le, get_or-take}
-use Rattle.std.proofs.lemmas.Bool.{eqb-true, eq-eqb, ltb-true, lt-ltb, le-ltb, leb-true, le-leb, lt-leb, cases_lt, and_right, and_from}
+use Rattle.std.proofs.Common.{◌≡◌, ℕ, zero, suc, ◌+◌, ◌<◌, ◌≤◌, Bool, true, false, ◌&&◌, eqb, ltb, leb, List, [], ◌∷◌, ◌++◌, length, get_or, take, sym, refl, ap, subst, arith}
+use Rattle.std.proofs.lemmas.List.{take_all, length-take-le, get_or-take}
+use Rattle.std.proofs.lemmas.Bool.{eq-eqb, lt-ltb, le-ltb, and_right, and_from}
 use Rattle.model.specs.Timetable.{Exchange, none, Side, Plan, Keeps, Lawful, home, landed, brought, left, count, bit}
 use Rattle.model.proofs.Counting.{count_push, count_same, count_le, count_tight}
 use Rattle.model.proofs.Marks.{Started, early_before, in_of, out_of, early_some, early, early_grows}

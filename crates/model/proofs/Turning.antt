@@ -1,6 +1,6 @@
 -- One boundary of a pass: what is asked there, and what it comes to.
 use Rattle.std.proofs.Common.{◌≡◌, ℕ, zero, suc, ◌+◌, ◌<◌, ◌≤◌, Bool, true, false, cond, not, eqb, ltb, ◌⊎◌, List, length, get_or, sym, refl, ap, ◌∙◌, subst, inl, inr, arith}
-use Rattle.std.proofs.lemmas.Bool.{both_ways, le-leb, ltb-true, eq-eqb, not-true, cases_eq, cases_lt, eqb-false}
+use Rattle.std.proofs.lemmas.Bool.{both_ways, le-leb, ltb-true, not-true, cases_eq, cases_lt, eqb-false}
 use Rattle.model.specs.Timetable.{Act, Side, Forward, Backward, occupies}
 use Rattle.model.specs.Verdict.{Mark, Here, is_away_at, is_here_at, State, after, most_disks}
 use Rattle.model.specs.Statements.{Fit}

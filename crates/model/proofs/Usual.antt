@@ -1,10 +1,9 @@
 -- The usual opening fills the frames with existing blocks, rising.
 use Rattle.std.proofs.Common.{◌≡◌, ℕ, zero, suc, ◌+◌, ◌-◌, ◌<◌, ◌≤◌, Bool, true, false, ◌||◌, eqb, ltb, leb, ◌⊎◌, List, [], ◌∷◌, ◌++◌, length, get_or, refl, ap, ◌∙◌, subst, inl, inr, arith}
 use Rattle.std.proofs.lemmas.List.{length-append, get_or_append_left, get_or-append-add}
-use Rattle.std.proofs.lemmas.Bool.{false≢true, and_parts, and_from, ltb-true, lt-ltb, le-leb, eqb-true, eqb-false, leb-true, leb-false, eq-eqb, ne_eqb, cases_eq, cases_lt}
-use Rattle.model.specs.Timetable.{bit, home, one_or}
+use Rattle.std.proofs.lemmas.Bool.{and_parts, and_from, ltb-true, lt-ltb, le-leb, eqb-true, eqb-false, leb-true, leb-false, eq-eqb, cases_lt}
+use Rattle.model.specs.Timetable.{bit, home}
 use Rattle.model.specs.Pass.{each, add_unless, different, usual_opening, rises, opening_fits}
-use Rattle.model.specs.View.{all_of}
 use Rattle.model.specs.PassLaws.{Playable, FitOpening, OpeningsTold}
 use Rattle.model.proofs.Picked.{Rising, rising_room, rising_from, rising_each, rising_pairs, picked_rises, sum_below, sum_same, sum_both, sum_none, sum_one, length_picked, home_one}
 use Rattle.model.proofs.Seeing.{each_at, each_length}

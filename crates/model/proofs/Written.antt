@@ -2,7 +2,7 @@
 use Rattle.std.proofs.Common.{◌≡◌, ℕ, zero, suc, ◌<◌, ◌≤◌, true, List, [], length, sym, ◌∙◌, arith}
 use Rattle.std.proofs.lemmas.List.{append-nil}
 use Rattle.model.specs.Timetable.{Side, Plan}
-use Rattle.model.specs.PlanBytes.{plan_bytes, plan_limit}
+use Rattle.model.specs.PlanBytes.{plan_bytes}
 use Rattle.model.specs.Verdict.{State, is_over, run, verdict, accepted}
 use Rattle.model.specs.Statements.{Fit, WrittenBy, plan_outcome}
 use Rattle.model.proofs.Turns.{over_ends}

@@ -66,12 +66,14 @@ module _ (side : Side) (homes : List ℕ) (frames fetch : ℕ) (requests : List 
   Arrives cs o a xs s = (n : ℕ) → Tells side homes fetch o a xs s → FormsTo s.phase cs → Whole (gather o a xs cs) → length (flat_map command_bytes cs ++ rest) < n → length (flat_map command_bytes cs ++ rest) ≤ total →
       Arrived (gather o a xs cs) (run side homes frames fetch requests room n total s (flat_map command_bytes cs ++ rest))
 
-  -- arrived from the next state, arrived from this one
-  onto : (p : Plan) (out out' : Outcome) → out ≡ out' → Arrived p out' → Arrived p out
-  onto p out out' e r = record { s = r.s; n = r.n; tells_it = r.tells_it; before_end = r.before_end; enough = r.enough; comes = e ∙ r.comes }
-
   long : (cs : List Command) → length rest ≤ length (flat_map command_bytes cs ++ rest)
   long cs = omega (arith, length-append (flat_map command_bytes cs) rest)
+
+  -- arrived from the next state, arrived from this one
+  onto : (n : ℕ) (s : State) (c : Command) (cs : List Command) (p : Plan) → length (command_bytes c ++ (flat_map command_bytes cs ++ rest)) ≤ total → in_place s.phase c ≡ true → AllPass (own_tests side homes frames fetch requests room s c) →
+      Arrived p (run side homes frames fetch requests room n total (after side homes frames fetch requests room s c) (flat_map command_bytes cs ++ rest)) → Arrived p (run side homes frames fetch requests room (suc n) total s (command_bytes c ++ (flat_map command_bytes cs ++ rest)))
+  onto n s c cs p u e h r =
+      record { s = r.s; n = r.n; tells_it = r.tells_it; before_end = r.before_end; enough = r.enough; comes = run_on n s c (flat_map command_bytes cs ++ rest) u (long cs) e h ∙ r.comes }
 
   arrives_opens : (b : ℕ) (cs : List Command) (o : List ℕ) (s : State) → Arrives cs (o ++ (b ∷ [])) [] [] (after side homes frames fetch requests room s (Opens b)) → Arrives (Opens b ∷ cs) o [] [] s
   unfolding after
@@ -86,9 +88,8 @@ module _ (side : Side) (homes : List ℕ) (frames fetch : ℕ) (requests : List 
       subst (λ (v : List ℕ). (i j : ℕ) → i < j → j < length v → get_or v i 0 < get_or v j 0) e.opens k.rise in
       let known : b < length homes = each_last o b 0 (λ _ m. m < length homes) (each_front (o ++ (b ∷ [])) e.more_opening 0 (λ _ m. m < length homes) exist) in
       let low : s.floor ≤ b = h.floor_low b (above b e.more_opening rise) in
-      onto plan (run side homes frames fetch requests room (suc n) total s (flat_map command_bytes (Opens b ∷ cs) ++ rest)) (run side homes frames fetch requests room n total (after side homes frames fetch requests room s (Opens b)) (flat_map command_bytes cs ++ rest))
-      (run_on n s (Opens b) (flat_map command_bytes cs ++ rest) u (long cs) f.0
-      (lt-ltb s.opened frames (omega (arith, h.opened, k.fits, size_is, length_push o b)), (le-leb s.floor b low, (lt-ltb b (length homes) known, tt))))
+      onto n s (Opens b) cs plan u f.0
+      (lt-ltb s.opened frames (omega (arith, h.opened, k.fits, size_is, length_push o b)), (le-leb s.floor b low, (lt-ltb b (length homes) known, tt)))
       (more n (tells_opens side homes frames fetch requests room fit o s b h low known) f.1 k (omega arith) (omega arith))
     where
       above : (b : ℕ) (m : List ℕ) → ((i j : ℕ) → i < j → j < length ((o ++ (b ∷ [])) ++ m) → get_or ((o ++ (b ∷ [])) ++ m) i 0 < get_or ((o ++ (b ∷ [])) ++ m) j 0) → (i : ℕ) → i < length o → get_or o i 0 < b
@@ -129,9 +130,8 @@ module _ (side : Side) (homes : List ℕ) (frames fetch : ℕ) (requests : List 
       let held : length s.records ≡ length xs = ap (λ (v : List Exchange). length v) h.records in
       let full : s.opened ≡ frames = h.opened ∙ (sym (ap (λ (v : List ℕ). length v) c) ∙ k'.filled (λ i. some_push xs x e.more_exchanges (sym e.trades ∙ i.1))) in
       subst (λ (v : Plan). Arrived v (run side homes frames fetch requests room (suc n) total s (flat_map command_bytes (Trades p q ∷ cs) ++ rest))) (sym same)
-      (onto (at s.boundary) (run side homes frames fetch requests room (suc n) total s (flat_map command_bytes (Trades p q ∷ cs) ++ rest)) (run side homes frames fetch requests room n total (after side homes frames fetch requests room s (Trades p q)) (flat_map command_bytes cs ++ rest))
-      (run_on n s (Trades p q) (flat_map command_bytes cs ++ rest) u (long cs) f.0
-      (eq-eqb s.opened frames full, (lt-ltb p (length homes) law.knows_in, (t.0, (lt-ltb q (length homes) law.knows_out, (t.1, (le-leb (get_or s.idle (occupies side homes x) 0) s.boundary t.2, (lt-ltb (length s.records) room (omega (arith, length_push xs x, k'.listed)), tt))))))))
+      (onto n s (Trades p q) cs (at s.boundary) u f.0
+      (eq-eqb s.opened frames full, (lt-ltb p (length homes) law.knows_in, (t.0, (lt-ltb q (length homes) law.knows_out, (t.1, (le-leb (get_or s.idle (occupies side homes x) 0) s.boundary t.2, (lt-ltb (length s.records) room (omega (arith, length_push xs x, k'.listed)), tt)))))))
       (more n (tells_trades side homes frames fetch requests room fit o a xs s p q h law.knows_in law.knows_out t.0 t.1) f.1 k' (omega arith) (omega arith)))
 
   left_to_serve : (a m : List Act) (position : ℕ) → position ≡ served a → served ((a ++ (Serve ∷ [])) ++ m) ≤ length requests → position < length requests
@@ -169,14 +169,13 @@ module _ (side : Side) (homes : List ℕ) (frames fetch : ℕ) (requests : List 
       let there : ResidentDuring fetch o xs (get_or requests (served a) 0) (length a) = during_at o xs a e.more_acts e.more_exchanges plan c e.acts e.trades (λ j m. omega (arith, e.later j m, length_push a Serve)) k in
       let here : ResidentDuring fetch o xs (get_or requests s.position 0) s.boundary =
       subst (λ (v : ℕ). ResidentDuring fetch o xs (get_or requests v 0) s.boundary) (sym h.position) (subst (λ (v : ℕ). ResidentDuring fetch o xs (get_or requests (served a) 0) v) (sym h.boundary) there) in
-      onto plan (run side homes frames fetch requests room (suc n) total s (flat_map command_bytes (Serves ∷ cs) ++ rest)) (run side homes frames fetch requests room n total (after side homes frames fetch requests room s Serves) (flat_map command_bytes cs ++ rest))
-      (run_on n s Serves (flat_map command_bytes cs ++ rest) u (long cs) f.0 (
+      onto n s Serves cs plan u f.0 (
         eq-eqb s.opened frames full,
         (
           lt-ltb s.position (length requests) (left_to_serve a e.more_acts s.position h.position asked),
           (resident_here fetch fit.lasts o xs s.boundary (get_or requests s.position 0) (get_or s.marks (get_or requests s.position 0) (Away 0)) h.started (h.marks (get_or requests s.position 0)) here, tt),
         ),
-      ))
+      )
       (more n (tells_serves side homes frames fetch requests room fit o a xs s h) f.1 k (omega arith) (omega arith))
 
   arrives_waits : (cs : List Command) (o : List ℕ) (a : List Act) (xs : List Exchange) (s : State) → Arrives cs o (a ++ (Wait ∷ [])) xs (after side homes frames fetch requests room s Waits) → Arrives (Waits ∷ cs) o a xs s
@@ -187,8 +186,7 @@ module _ (side : Side) (homes : List ℕ) (frames fetch : ℕ) (requests : List 
       let e = extends cs o (a ++ (Wait ∷ [])) xs in
       let c : plan.opening ≡ o = closed_to cs Standing o (a ++ (Wait ∷ [])) xs refl f.1 in
       let full : s.opened ≡ frames = h.opened ∙ (sym (ap (λ (v : List ℕ). length v) c) ∙ k.filled (λ i. some_push a Wait e.more_acts (sym e.acts ∙ i.0))) in
-      onto plan (run side homes frames fetch requests room (suc n) total s (flat_map command_bytes (Waits ∷ cs) ++ rest)) (run side homes frames fetch requests room n total (after side homes frames fetch requests room s Waits) (flat_map command_bytes cs ++ rest))
-      (run_on n s Waits (flat_map command_bytes cs ++ rest) u (long cs) f.0 (eq-eqb s.opened frames full, tt))
+      onto n s Waits cs plan u f.0 (eq-eqb s.opened frames full, tt)
       (more n (tells_waits side homes frames fetch requests room fit o a xs s h) f.1 k (omega arith) (omega arith))
 
   -- no command follows the end

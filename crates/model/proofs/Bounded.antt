@@ -1,7 +1,7 @@
 -- How many exchanges a plan that keeps the model can have, and how large the plan of a pass is.
-use Rattle.std.proofs.Common.{◌≡◌, ℕ, zero, suc, ◌+◌, ◌*◌, ◌<◌, ◌≤◌, Bool, eqb, ◌⊎◌, List, [], ◌∷◌, ◌++◌, length, get_or, take, sym, ap, ◌∙◌, subst, inl, inr, mul_assoc, suc-mul, mul_comm, zero-mul, le_of_mul-le-mul_right, add-one, arith}
+use Rattle.std.proofs.Common.{◌≡◌, ℕ, zero, suc, ◌+◌, ◌*◌, ◌<◌, ◌≤◌, Bool, eqb, ◌⊎◌, List, [], ◌∷◌, ◌++◌, length, get_or, take, sym, ap, ◌∙◌, subst, inl, inr, mul_assoc, suc-mul, mul_comm, zero-mul, le_of_mul-le-mul_right, add-one, arith, add-mul, true, false, refl}
 use Rattle.std.proofs.lemmas.List.{take_all}
-use Rattle.std.proofs.lemmas.Bool.{eq-eqb, ne_eqb, cases_eq}
+use Rattle.std.proofs.lemmas.Bool.{eq-eqb, ne_eqb, cases_eq, eqb-true}
 use Rattle.model.specs.Timetable.{Exchange, none, Side, occupies, bit, count, KeepsPlainly}
 use Rattle.model.specs.Verdict.{most_disks}
 use Rattle.model.specs.PassLaws.{FewExchanges}
@@ -26,25 +26,13 @@ module _ (side : Side) (homes : List ℕ) (fetch : ℕ) where
         let e : take (suc m) xs ≡ take m xs ++ (x ∷ []) = take-suc xs m none (omega arith) in
         let f : count (on d) (take (suc m) xs) ≡ count (on d) (take m xs) + bit (on d x) = ap (λ (ys : List Exchange). count (on d) ys) e ∙ count_push (on d) (take m xs) x in
         subst (λ (n : ℕ). n * fetch ≤ bound) (sym f)
-        (go (cases_eq (occupies side homes x) d) (λ b k. busy m b (omega arith) k))
+        (on_or_off (count (on d) (take m xs)) x.start bound (on d x)
+        (λ i. busy m x.start (omega arith) (λ j n o. apart j m n (omega arith) (o ∙ sym (eqb-true (occupies side homes x) d i)))) (λ i. h m (omega arith) (eqb-true (occupies side homes x) d i))
+        (busy m bound (omega arith) (λ j n o. h j (omega arith) o)))
       where
-        go : (occupies side homes (get_or xs m none) ≡ d) ⊎ (occupies side homes (get_or xs m none) ≡ d → ⊥) →
-            ((b : ℕ) → ((j : ℕ) → j < m → occupies side homes (get_or xs j none) ≡ d → (get_or xs j none).start + fetch ≤ b) → count (on d) (take m xs) * fetch ≤ b) →
-            (count (on d) (take m xs) + bit (on d (get_or xs m none))) * fetch ≤ bound
-        go (inl i) again =
-            let k = again (get_or xs m none).start (λ j n o. apart j m n (omega arith) (o ∙ sym i)) in
-            let one : bit (on d (get_or xs m none)) ≡ 1 = ap bit (eq-eqb (occupies side homes (get_or xs m none)) d i) in
-            let more : (count (on d) (take m xs) + 1) * fetch ≡ count (on d) (take m xs) * fetch + fetch = next (count (on d) (take m xs)) in
-            subst (λ (n : ℕ). (count (on d) (take m xs) + n) * fetch ≤ bound) (sym one) (omega (arith, h m (omega arith) i))
-          where
-            next : (c : ℕ) → (c + 1) * fetch ≡ c * fetch + fetch
-            next c = ap (λ (n : ℕ). n * fetch) (add-one c) ∙ suc-mul c fetch
-        go (inr i) again =
-            let none_here : bit (on d (get_or xs m none)) ≡ 0 = ap bit (ne_eqb (occupies side homes (get_or xs m none)) d i) in
-            subst (λ (n : ℕ). n * fetch ≤ bound) (lemma (count (on d) (take m xs)) (bit (on d (get_or xs m none))) none_here) (again bound (λ j n o. h j (omega arith) o))
-          where
-            lemma : (a b : ℕ) → b ≡ 0 → a ≡ a + b
-            lemma a b e = omega arith
+        on_or_off : (c s b : ℕ) (t : Bool) → (t ≡ true → c * fetch ≤ s) → (t ≡ true → s + fetch ≤ b) → c * fetch ≤ b → (c + bit t) * fetch ≤ b
+        on_or_off c s b true i k l = omega (arith, i refl, k refl, add-mul c 1 fetch)
+        on_or_off c s b false i k l = omega arith
 
 sum_le : (f : ℕ → ℕ) (n b : ℕ) → ((d : ℕ) → d < n → f d ≤ b) → sum_below f n ≤ n * b
 sum_le f zero b h = omega (arith, zero-mul b)

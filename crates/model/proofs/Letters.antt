@@ -106,6 +106,3 @@ module _ (plan : Plan) (t : ℕ) (l : t < length plan.acts) where
       one : (b : Act) → flat_map command_bytes (act_command b ∷ rest) ≡ letter b ∷ flat_map command_bytes rest
       one Serve = refl
       one Wait = refl
-
-pub step_letters : StepLetters
-step_letters plan t l = step_letter plan t l

@@ -54,9 +54,9 @@ module _ (side : Side) (homes : List ℕ) (frames fetch : ℕ) (requests : List 
           let r = ended_sound.requested b.0 final.state.landing b.1 l in
           absurd (omega (arith, r.from, r.within, pass_ended.all))
 
-  pub keeps : Keeps side homes frames fetch requests (plan_from side homes frames fetch requests rule o)
+  pub pass_keeps : Keeps side homes frames fetch requests (plan_from side homes frames fetch requests rule o)
   unfolding plan_from
-  keeps =
+  pass_keeps =
       let t = ended_sound.tells_it in
       let k = ended_sound.keeps_it in
       record {
@@ -70,12 +70,6 @@ module _ (side : Side) (homes : List ℕ) (frames fetch : ℕ) (requests : List 
         all_land = λ i l. omega (arith, t.landing_over i l, landed, t.boundary);
       }
 
-  pub few_steps : length (plan_from side homes frames fetch requests rule o).acts ≤ 2 * fetch * length requests
+  pub pass_ends : length (plan_from side homes frames fetch requests rule o).acts ≤ 2 * fetch * length requests
   unfolding plan_from
-  few_steps = omega (arith, pass_ended.in_time, ended_sound.tells_it.boundary, opened.1)
-
-pub pass_keeps : PassKeeps
-pass_keeps side homes frames fetch requests rule o play law fit = keeps side homes frames fetch requests rule o play law fit
-
-pub pass_ends : PassEnds
-pass_ends side homes frames fetch requests rule o play law fit = few_steps side homes frames fetch requests rule o play law fit
+  pass_ends = omega (arith, pass_ended.in_time, ended_sound.tells_it.boundary, opened.1)

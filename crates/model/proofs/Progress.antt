@@ -1,6 +1,6 @@
 -- How the state of a verdict tells the plan read so far: its opening content, its acts and its exchanges.
 use Rattle.std.proofs.Common.{◌≡◌, ℕ, zero, suc, ◌+◌, ◌<◌, ◌≤◌, true, ◌⊎◌, List, [], ◌∷◌, ◌++◌, length, get_or, set, replicate, sym, refl, ap, ◌∙◌, subst, inl, inr, arith}
-use Rattle.std.proofs.lemmas.List.{get_or_append_left, get_or_push, length_push, get_or-set_same, get_or-set_other, length-set, length-replicate, length-append}
+use Rattle.std.proofs.lemmas.List.{get_or_append_left, get_or_push, length_push, get_or-set_same, get_or-set_other, length-set, length-replicate, length-append, get_or-replicate, get_or_past}
 use Rattle.std.proofs.lemmas.Bool.{false≢true, cases_eq, leb-true}
 use Rattle.model.specs.Timetable.{Exchange, none, count, home, Lawful, Side, occupies, Forward, Backward, Act, Serve, Wait, served, waited}
 use Rattle.model.specs.PlanBytes.{Opens, Trades, Serves, Waits, Ends}
@@ -37,9 +37,7 @@ pub record Tells (side : Side) (homes : List ℕ) (fetch : ℕ) (o : List ℕ) (
 
 -- a blank list gives its one value everywhere
 pub get_or_blank : {A : Type 0} (n b : ℕ) (x : A) → get_or (replicate n x) b x ≡ x
-get_or_blank zero b x = refl
-get_or_blank (suc n) zero x = refl
-get_or_blank (suc n) (suc b) x = get_or_blank n b x
+get_or_blank n b x = grind (arith, get_or-replicate n b x x, get_or_past (replicate n x) b x, length-replicate n x)
 
 mark_none : (fetch b : ℕ) (m : Mark) → m ≡ Away 0 → MarkIs fetch [] [] 0 b m
 unfolding count home

@@ -29,14 +29,8 @@ opens_letter l a b d e = (grind (arith, nat_tests), grind (arith, nat_tests))
 trades_letter : (l a b c d : ℕ) → by_letter l a b ≡ Known (Trades c d) → (l ≡ 88) × (a ≡ c) × (b ≡ d)
 trades_letter l a b c d e = (grind (arith, nat_tests), grind (arith, nat_tests), grind (arith, nat_tests))
 
-serves_letter : (l a b : ℕ) → by_letter l a b ≡ Known Serves → l ≡ 83
-serves_letter l a b e = grind (arith, nat_tests)
-
-waits_letter : (l a b : ℕ) → by_letter l a b ≡ Known Waits → l ≡ 87
-waits_letter l a b e = grind (arith, nat_tests)
-
-ends_letter : (l a b : ℕ) → by_letter l a b ≡ Known Ends → l ≡ 69
-ends_letter l a b e = grind (arith, nat_tests)
+bare_letter : (l a b : ℕ) (c : Command) → by_letter l a b ≡ Known c → l ≡ get_or (command_bytes c) 0 0
+bare_letter l a b c e = grind (arith, nat_tests)
 
 -- a rest that is not empty is read by its first letter
 found_cons : (l : ℕ) (rest : List ℕ) → found (l ∷ rest) ≡ by_letter l (block (get_or (l ∷ rest) 1 0) (get_or (l ∷ rest) 2 0)) (block (get_or (l ∷ rest) 3 0) (get_or (l ∷ rest) 4 0))
@@ -51,11 +45,8 @@ found_none = refl
 abbrev pub Bytes : List ℕ → Type 0
 Bytes xs = (i : ℕ) → i < length xs → get_or xs i 0 < 256
 
-low_block : (l h : ℕ) → l < 256 → (l + 256 * h) % 256 ≡ l
-low_block l h k = omega arith
-
-high_block : (l h : ℕ) → l < 256 → (l + 256 * h) / 256 ≡ h
-high_block l h k = omega arith
+split_block : (l h b : ℕ) → l < 256 → block l h ≡ b → (l ≡ low b) × (h ≡ high b)
+split_block l h b k e = (omega arith, omega arith)
 
 pub block_again : (b : ℕ) → block (low b) (high b) ≡ b
 block_again b = omega arith
@@ -63,15 +54,14 @@ block_again b = omega arith
 -- a command that was found stands there with all its bytes
 pub reads_back : (rest : List ℕ) (c : Command) → Bytes rest → found rest ≡ Known c → size c ≤ length rest → rest ≡ command_bytes c ++ drop (size c) rest
 reads_back [] c k f h = let e = found_none in absurd (cc)
-reads_back (l ∷ rest) Serves k f h = ap (λ (n : ℕ). n ∷ rest) (serves_letter l (block (get_or (l ∷ rest) 1 0) (get_or (l ∷ rest) 2 0)) (block (get_or (l ∷ rest) 3 0) (get_or (l ∷ rest) 4 0)) (sym (found_cons l rest) ∙ f))
-reads_back (l ∷ rest) Waits k f h = ap (λ (n : ℕ). n ∷ rest) (waits_letter l (block (get_or (l ∷ rest) 1 0) (get_or (l ∷ rest) 2 0)) (block (get_or (l ∷ rest) 3 0) (get_or (l ∷ rest) 4 0)) (sym (found_cons l rest) ∙ f))
-reads_back (l ∷ rest) Ends k f h = ap (λ (n : ℕ). n ∷ rest) (ends_letter l (block (get_or (l ∷ rest) 1 0) (get_or (l ∷ rest) 2 0)) (block (get_or (l ∷ rest) 3 0) (get_or (l ∷ rest) 4 0)) (sym (found_cons l rest) ∙ f))
+reads_back (l ∷ rest) Serves k f h = ap (λ (n : ℕ). n ∷ rest) (bare_letter l (block (get_or (l ∷ rest) 1 0) (get_or (l ∷ rest) 2 0)) (block (get_or (l ∷ rest) 3 0) (get_or (l ∷ rest) 4 0)) Serves (sym (found_cons l rest) ∙ f))
+reads_back (l ∷ rest) Waits k f h = ap (λ (n : ℕ). n ∷ rest) (bare_letter l (block (get_or (l ∷ rest) 1 0) (get_or (l ∷ rest) 2 0)) (block (get_or (l ∷ rest) 3 0) (get_or (l ∷ rest) 4 0)) Waits (sym (found_cons l rest) ∙ f))
+reads_back (l ∷ rest) Ends k f h = ap (λ (n : ℕ). n ∷ rest) (bare_letter l (block (get_or (l ∷ rest) 1 0) (get_or (l ∷ rest) 2 0)) (block (get_or (l ∷ rest) 3 0) (get_or (l ∷ rest) 4 0)) Ends (sym (found_cons l rest) ∙ f))
 reads_back (l ∷ []) (Opens b) k f h = absurd (omega arith)
 reads_back (l ∷ x ∷ []) (Opens b) k f h = absurd (omega arith)
 reads_back (l ∷ x ∷ y ∷ rest) (Opens b) k f h =
     let e = opens_letter l (block x y) (block (get_or (l ∷ x ∷ y ∷ rest) 3 0) (get_or (l ∷ x ∷ y ∷ rest) 4 0)) b (sym (found_cons l (x ∷ y ∷ rest)) ∙ f) in
-    let i : x ≡ low b = sym (low_block x y (k 1 (omega arith))) ∙ ap low e.1 in
-    let j : y ≡ high b = sym (high_block x y (k 1 (omega arith))) ∙ ap high e.1 in
+    let i = split_block x y b (k 1 (omega arith)) e.1 in
     let u : l ≡ 79 = e.0 in
     cc
 reads_back (l ∷ []) (Trades a b) k f h = absurd (omega arith)
@@ -80,10 +70,8 @@ reads_back (l ∷ x ∷ y ∷ []) (Trades a b) k f h = absurd (omega arith)
 reads_back (l ∷ x ∷ y ∷ z ∷ []) (Trades a b) k f h = absurd (omega arith)
 reads_back (l ∷ x ∷ y ∷ z ∷ w ∷ rest) (Trades a b) k f h =
     let e = trades_letter l (block x y) (block z w) a b (sym (found_cons l (x ∷ y ∷ z ∷ w ∷ rest)) ∙ f) in
-    let i : x ≡ low a = sym (low_block x y (k 1 (omega arith))) ∙ ap low e.1 in
-    let j : y ≡ high a = sym (high_block x y (k 1 (omega arith))) ∙ ap high e.1 in
-    let m : z ≡ low b = sym (low_block z w (k 3 (omega arith))) ∙ ap low e.2 in
-    let n : w ≡ high b = sym (high_block z w (k 3 (omega arith))) ∙ ap high e.2 in
+    let i = split_block x y a (k 1 (omega arith)) e.1 in
+    let j = split_block z w b (k 3 (omega arith)) e.2 in
     let u : l ≡ 88 = e.0 in
     cc
 

@@ -1,5 +1,5 @@
 -- Counting exchanges, and the opening content, one more at a time.
-use Rattle.std.proofs.Common.{◌≡◌, ℕ, zero, suc, ◌+◌, ◌<◌, ◌≤◌, Bool, false, eqb, List, [], ◌∷◌, ◌++◌, length, get_or, sym, refl, ap, ◌∙◌, add_assoc, zero-add, arith, reverse}
+use Rattle.std.proofs.Common.{◌≡◌, ℕ, zero, suc, ◌+◌, ◌<◌, ◌≤◌, Bool, false, eqb, List, [], ◌∷◌, ◌++◌, length, get_or, sym, refl, ap, ◌∙◌, add_assoc, zero-add, arith, reverse, true}
 use Rattle.std.proofs.lemmas.Bool.{eq-eqb, ne_eqb}
 use Rattle.model.specs.Timetable.{Exchange, none, bit, count, home, one_or, Act, Serve, Wait, served, waited}
 use mathlib.Core.List.{reverse-cons}
@@ -28,6 +28,14 @@ count_none p [] h = refl
 count_none p (x ∷ xs) h =
     let e : bit (p x) ≡ 0 = ap bit (h 0 (omega arith)) in
     let f = count_none p xs (λ j l. h (suc j) (omega arith)) in
+    omega arith
+
+pub count_each : (p : Exchange → Bool) (xs : List Exchange) → ((j : ℕ) → j < length xs → p (get_or xs j none) ≡ true) → count p xs ≡ length xs
+unfolding count
+count_each p [] h = refl
+count_each p (x ∷ xs) h =
+    let e : bit (p x) ≡ 1 = ap bit (h 0 (omega arith)) in
+    let f = count_each p xs (λ j l. h (suc j) (omega arith)) in
     omega arith
 
 -- a test that passes less often counts less; where the counts agree, so do the tests

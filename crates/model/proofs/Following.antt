@@ -31,25 +31,11 @@ before_late u x l = rw (le-ltb x.start u l)
 module _ (side : Side) (homes : List ℕ) (frames fetch : ℕ) (requests : List ℕ) (o : List ℕ) (rule : Rule) where
   before_need : (u t : ℕ) (v : View) → u ≤ t → before u (need_starts side homes frames fetch requests o rule v t) ≡ []
   unfolding before
-  before_need u t v l = go (missing v (wanted_block v)) (rule.need v)
-    where
-      go : (x : Bool) (y : Option ℕ) → before u (cond x (on_need side homes frames fetch requests o t (wanted_block v) y) []) ≡ []
-      go false y = refl
-      go true None = refl
-      go true (Some b) = before_late u (record { brings = wanted_block v; sends = b; start = t }) l
+  before_need u t v l = grind (arith, λ (b : ℕ). before_late u (record { brings = wanted_block v; sends = b; start = t }) l)
 
   before_ahead : (u t : ℕ) (v : View) (d : ℕ) → u ≤ t → before u (ahead_starts side homes frames fetch requests o rule v t d) ≡ []
   unfolding before
-  before_ahead u t v d l = go (is_free v d) (rule.ahead v d)
-    where
-      one : (p q : ℕ) (x : Bool) → before u (cond x (record { brings = p; sends = q; start = t } ∷ []) []) ≡ []
-      one p q true = before_late u (record { brings = p; sends = q; start = t }) l
-      one p q false = refl
-
-      go : (x : Bool) (y : Option (ℕ × ℕ)) → before u (cond x (on_ahead side homes frames fetch requests o v t d y) []) ≡ []
-      go false y = refl
-      go true None = refl
-      go true (Some z) = one z.0 z.1 (screened side homes frames fetch requests v d z.0 z.1)
+  before_ahead u t v d l = grind (arith, λ (p q : ℕ). before_late u (record { brings = p; sends = q; start = t }) l)
 
   before_more : (u : ℕ) (xs ys : List Exchange) → before u ys ≡ [] → before u (xs ++ ys) ≡ before u xs
   before_more u xs ys e = before_append u xs ys ∙ (ap (λ (zs : List Exchange). before u xs ++ zs) e ∙ append-nil (before u xs))
@@ -72,31 +58,11 @@ module _ (side : Side) (homes : List ℕ) (frames fetch : ℕ) (requests : List 
   -- the records of a state after a question
   ahead_records : (d : ℕ) (s : State) → (asks_ahead side homes frames fetch requests rule d s).records ≡ s.records ++ ahead_starts side homes frames fetch requests o rule (seen side homes frames fetch requests s) s.boundary d
   unfolding asks_ahead after
-  ahead_records d s = go (is_free v d) (rule.ahead v d)
-    where
-      v : View
-      v = seen side homes frames fetch requests s
-
-      one : (p q : ℕ) (x : Bool) → (cond x (starts side homes frames fetch requests s p q) s).records ≡ s.records ++ cond x (record { brings = p; sends = q; start = s.boundary } ∷ []) []
-      one p q true = refl
-      one p q false = sym (append-nil s.records)
-
-      go : (x : Bool) (y : Option (ℕ × ℕ)) → (cond x (takes_ahead side homes frames fetch requests s d y) s).records ≡ s.records ++ cond x (on_ahead side homes frames fetch requests o v s.boundary d y) []
-      go false y = sym (append-nil s.records)
-      go true None = sym (append-nil s.records)
-      go true (Some z) = one z.0 z.1 (screened side homes frames fetch requests v d z.0 z.1)
+  ahead_records d s = grind (arith, append-nil s.records)
 
   need_records : (s : State) → (asks_need side homes frames fetch requests rule s).records ≡ s.records ++ need_starts side homes frames fetch requests o rule (seen side homes frames fetch requests s) s.boundary
   unfolding asks_need after
-  need_records s = go (missing v (wanted_block v)) (rule.need v)
-    where
-      v : View
-      v = seen side homes frames fetch requests s
-
-      go : (x : Bool) (y : Option ℕ) → (cond x (takes_need side homes frames fetch requests s y) s).records ≡ s.records ++ cond x (on_need side homes frames fetch requests o s.boundary (wanted_block v) y) []
-      go false y = sym (append-nil s.records)
-      go true None = sym (append-nil s.records)
-      go true (Some b) = refl
+  need_records s = grind (arith, append-nil s.records)
 
   module _ (law : NeedLaw rule) (fit : Fit homes fetch) (known : (i : ℕ) → i < length requests → get_or requests i 0 < length homes) (a : List Act) (t pos : ℕ) where
     abbrev In : State → Type 0

@@ -2,11 +2,11 @@
 use Rattle.std.proofs.Common.{◌≡◌, ℕ, suc, ◌+◌, ◌*◌, ◌<◌, eqb, ltb, leb, List, [], ◌∷◌, ◌++◌, map, length, get_or, take, drop, sym, refl, ap, ◌∙◌, add-zero, arith}
 use Rattle.std.specs.List.{flat_map}
 use Rattle.std.proofs.lemmas.List.{append_assoc, length-append, length-take-le, take-append-drop, drop_more, get_or_at}
-use Rattle.std.proofs.lemmas.Bool.{le-ltb}
+use Rattle.std.proofs.lemmas.Bool.{le-ltb, lt-ltb}
 use Rattle.model.specs.Timetable.{Exchange, none, bit, count, Act, Serve, Wait, Plan}
 use Rattle.model.specs.PlanBytes.{Command, Opens, Ends, command_bytes, act_command, trade_command, starting_at, step_commands, plan_commands, plan_bytes}
-use Rattle.model.specs.Layout.{letter, letter_at, StepLetters}
-use Rattle.model.proofs.Counting.{count_none, count_split}
+use Rattle.model.specs.Layout.{letter, letter_at, StepLetters, PlanSize}
+use Rattle.model.proofs.Counting.{count_none, count_split, count_each}
 use Rattle.std.proofs.lemmas.List.Concat.{flat_map-append}
 use Rattle.std.proofs.lemmas.Bool.Decides.{nat_tests}
 use Rattle.model.proofs.Writing.{steps_append}
@@ -106,3 +106,16 @@ module _ (plan : Plan) (t : ℕ) (l : t < length plan.acts) where
       one : (b : Act) → flat_map command_bytes (act_command b ∷ rest) ≡ letter b ∷ flat_map command_bytes rest
       one Serve = refl
       one Wait = refl
+
+-- How many bytes a plan has.
+pub plan_size : PlanSize
+unfolding plan_bytes plan_commands
+plan_size plan formed =
+    let xs : List Exchange = plan.exchanges in
+    let o : List Command = map Opens plan.opening in
+    let s : List Command = step_commands 0 plan.acts xs in
+    let a : length (flat_map command_bytes (o ++ (s ++ (Ends ∷ [])))) ≡ length (flat_map command_bytes o ++ flat_map command_bytes (s ++ (Ends ∷ []))) = ap (λ (bs : List ℕ). length bs) (flat_map-append command_bytes o (s ++ (Ends ∷ []))) in
+    let b : length (flat_map command_bytes (s ++ (Ends ∷ []))) ≡ length (flat_map command_bytes s ++ (69 ∷ [])) = ap (λ (bs : List ℕ). length bs) (flat_map-append command_bytes s (Ends ∷ [])) in
+    let c : starts_before xs 0 ≡ 0 = count_none (λ x. ltb x.start 0) xs (λ j l. le-ltb (get_or xs j none).start 0 (omega arith)) in
+    let d : starts_before xs (0 + length plan.acts) ≡ length xs = count_each (λ x. ltb x.start (0 + length plan.acts)) xs (λ j l. lt-ltb (get_or xs j none).start (0 + length plan.acts) (omega (arith, formed.before_step j l))) in
+    omega (arith, length-append (flat_map command_bytes o) (flat_map command_bytes (s ++ (Ends ∷ []))), length-append (flat_map command_bytes s) (69 ∷ []), length_opens plan.opening, length_steps plan.acts 0 xs)

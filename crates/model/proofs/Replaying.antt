@@ -9,7 +9,7 @@ use Rattle.model.specs.MirrorLaws.{Alike}
 use Rattle.model.specs.Pass.{usual_opening}
 use Rattle.model.specs.PassLaws.{Playable, FitOpening, SheetPlays, plan_over, Sized, PassAccepted, turned_plan, replay_plan, PassReplays}
 use Rattle.model.proofs.Once.{keeps_form}
-use Rattle.model.proofs.Sizes.{plan_size}
+use Rattle.model.proofs.Letters.{plan_size}
 use Rattle.model.proofs.Written.{written_accepted}
 use Rattle.model.proofs.Mirroring.{mirror_keeps, mirror_alike}
 use Rattle.model.proofs.Passing.{pass_keeps, pass_ends}

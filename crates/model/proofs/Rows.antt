@@ -10,7 +10,7 @@ use Rattle.model.specs.Worked.{WorkedRows, WorkedEdges, ModelTells, homes6, requ
 use Rattle.model.proofs.Exact.{accepts_exactly}
 use Rattle.model.proofs.Once.{keeps_form}
 use Rattle.std.proofs.lemmas.List.Sums.{AllPass-from_list_all}
-use Rattle.model.proofs.Sizes.{plan_size}
+use Rattle.model.proofs.Letters.{plan_size}
 
 pub worked_rows : WorkedRows
 unfolding verdict run step after found blank_marks blank_idle

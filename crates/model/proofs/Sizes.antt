@@ -15,58 +15,7 @@ use Rattle.model.proofs.Exact.{accepts_exactly}
 use Rattle.model.proofs.Written.{written_accepted}
 use Rattle.model.proofs.Mirroring.{mirror_keeps, mirror_alike}
 use Rattle.model.proofs.Twice.{mirror_twice}
-
--- how many of some commands are the end
-abbrev ends_in : List Command → ℕ
-ends_in [] = 0
-ends_in (Opens b ∷ cs) = ends_in cs
-ends_in (Trades p q ∷ cs) = ends_in cs
-ends_in (Serves ∷ cs) = ends_in cs
-ends_in (Waits ∷ cs) = ends_in cs
-ends_in (Ends ∷ cs) = 1 + ends_in cs
-
--- three bytes for a block, one for a step, five for an exchange
-abbrev weight : Plan → ℕ
-weight plan = 3 * length plan.opening + length plan.acts + 5 * length plan.exchanges
-
-weighs : (cs : List Command) (o : List ℕ) (a : List Act) (xs : List Exchange) →
-    length (flat_map command_bytes cs) + (3 * length o + length a + 5 * length xs) ≡ weight (gather o a xs cs) + ends_in cs
-weighs [] o a xs = omega arith
-weighs (Opens b ∷ cs) o a xs = let h = weighs cs (o ++ (b ∷ [])) a xs in omega (arith, length_push o b)
-weighs (Trades p q ∷ cs) o a xs =
-    let x : Exchange = record { brings = p; sends = q; start = length a } in
-    let h = weighs cs o a (xs ++ (x ∷ [])) in
-    omega (arith, length_push xs x)
-weighs (Serves ∷ cs) o a xs = let h = weighs cs o (a ++ (Serve ∷ [])) xs in omega (arith, length_push a Serve)
-weighs (Waits ∷ cs) o a xs = let h = weighs cs o (a ++ (Wait ∷ [])) xs in omega (arith, length_push a Wait)
-weighs (Ends ∷ cs) o a xs = let h = weighs cs o a xs in omega arith
-
-ends_opens : (bs : List ℕ) (cs : List Command) → ends_in (map Opens bs ++ cs) ≡ ends_in cs
-ends_opens [] cs = refl
-ends_opens (b ∷ bs) cs = ends_opens bs cs
-
-ends_trades : (xs : List Exchange) (cs : List Command) → ends_in (map trade_command xs ++ cs) ≡ ends_in cs
-ends_trades [] cs = refl
-ends_trades (x ∷ xs) cs = ends_trades xs cs
-
-ends_steps : (acts : List Act) (t : ℕ) (xs : List Exchange) (cs : List Command) → ends_in (step_commands t acts xs ++ cs) ≡ ends_in cs
-unfolding step_commands
-ends_steps [] t xs cs = refl
-ends_steps (act ∷ acts) t xs cs =
-    ap (λ (ds : List Command). ends_in ds) (append_assoc (map trade_command (starting_at t xs)) (act_command act ∷ step_commands (t + 1) acts xs) cs)
-    ∙ (ends_trades (starting_at t xs) (act_command act ∷ (step_commands (t + 1) acts xs ++ cs)) ∙ (go act ∙ ends_steps acts (t + 1) xs cs))
-  where
-    go : (a : Act) → ends_in (act_command a ∷ (step_commands (t + 1) acts xs ++ cs)) ≡ ends_in (step_commands (t + 1) acts xs ++ cs)
-    go Serve = refl
-    go Wait = refl
-
-pub plan_size : PlanSize
-unfolding plan_bytes plan_commands
-plan_size plan formed =
-    let cs : List Command = plan_commands plan in
-    let same : weight (gather [] [] [] cs) ≡ weight plan = ap (λ (p : Plan). weight p) (gather_plan plan formed.in_order formed.before_step) in
-    let one : ends_in cs ≡ 1 = ends_opens plan.opening (step_commands 0 plan.acts plan.exchanges ++ (Ends ∷ [])) ∙ ends_steps plan.acts 0 plan.exchanges (Ends ∷ []) in
-    omega (arith, weighs cs [] [] [])
+use Rattle.model.proofs.Letters.{plan_size}
 
 pub mirror_size : MirrorSize
 mirror_size side homes frames fetch requests plan f k =

@@ -81,15 +81,12 @@ module _ (side : Side) (homes : List ℕ) (fetch : ℕ) (xs : List Exchange) (t 
 module _ (side : Side) (homes : List ℕ) (frames fetch : ℕ) (requests : List ℕ) (lasts : 0 < fetch) (o : List ℕ) (a : List Act) (s : State)
     (h : Tells side homes fetch o a s.records s) where
   free_same : (d : ℕ) → leb (idle_from s d) s.boundary ≡ free_at side homes frames fetch requests o s.records s.boundary d
-  free_same d = go (cases_lt s.boundary (idle_from s d))
-    where
-      under_way : ℕ
-      under_way = count (carried side homes fetch s.boundary d) s.records
-
-      go : (s.boundary < idle_from s d) ⊎ (idle_from s d ≤ s.boundary) → leb (idle_from s d) s.boundary ≡ eqb under_way 0
-      go (inl l) = lt-leb (idle_from s d) s.boundary l ∙ sym (ne_eqb under_way 0 (λ e. let m = h.idle_low d s.boundary (landed_on side homes fetch s.records s.boundary d e) in omega arith))
-      go (inr l) = le-leb (idle_from s d) s.boundary l
-          ∙ sym (eq-eqb under_way 0 (all_landed side homes fetch s.records s.boundary d (λ j m i. omega (arith, h.idle_over j m, ap (λ (n : ℕ). idle_from s n) i))))
+  free_same d =
+      let none_late = landed_on side homes fetch s.records s.boundary d in
+      let low = h.idle_low d s.boundary in
+      let all = λ (m : idle_from s d ≤ s.boundary). all_landed side homes fetch s.records s.boundary d (λ j l i. omega (arith, h.idle_over j l, ap (λ (n : ℕ). idle_from s n) i)) in
+      let free = λ (e : count (carried side homes fetch s.boundary d) s.records ≡ 0). low (none_late e) in
+      grind (arith, nat_tests)
 
   frees_same : map (λ f. leb f s.boundary) s.idle ≡ each (free_at side homes frames fetch requests o s.records s.boundary) most_disks
   frees_same = ext_get_or false (map (λ f. leb f s.boundary) s.idle) (each (free_at side homes frames fetch requests o s.records s.boundary) most_disks)

@@ -33,23 +33,13 @@ lawful_parts v a b e =
 
 -- where there is no greatest, none passes
 module _ (p : ℕ → Bool) (key : ℕ → ℕ) where
-  misses : (n : ℕ) (t : Bool) (o : Option ℕ) → p n ≡ t → (o ≡ None → (b : ℕ) → b < n → p b ≡ false) → better_if t key n o ≡ None → (b : ℕ) → b < suc n → p b ≡ false
-  misses n true None e h f b l = absurd (cc)
-  misses n true (Some m) e h f b l = absurd (go (ltb (key m) (key n)) f)
-    where
-      go : (t : Bool) → cond t (Some n) (Some m) ≡ None → ⊥
-      go true f = absurd (cc)
-      go false f = absurd (cc)
-  misses n false o e h f b l = go (cases_eq b n)
-    where
-      go : (b ≡ n) ⊎ (b ≡ n → ⊥) → p b ≡ false
-      go (inl i) = ap p i ∙ e
-      go (inr i) = h f b (omega arith)
+  misses : (n b : ℕ) (o : Option ℕ) → (o ≡ None → b < n → p b ≡ false) → better_if (p n) key n o ≡ None → b < suc n → p b ≡ false
+  misses n b o h f l = grind arith
 
   pub greatest_none : (n : ℕ) → greatest p key n ≡ None → (b : ℕ) → b < n → p b ≡ false
   unfolding greatest
   greatest_none zero e b l = absurd (omega arith)
-  greatest_none (suc n) e b l = misses n (p n) (greatest p key n) refl (λ f c m. greatest_none n f c m) e b l
+  greatest_none (suc n) e b l = misses n b (greatest p key n) (λ f. greatest_none n f b) e l
 
 -- the greatest by a key, ties to the lowest
 pub record Top (p : ℕ → Bool) (key : ℕ → ℕ) (n b : ℕ) : Type 0 where
@@ -164,11 +154,7 @@ backward_names v w s b e =
 
 -- a disk past the list is not free
 pub free_known : (v : View) (d : ℕ) → is_free v d ≡ true → d < length v.free
-free_known v d e = go (cases_lt d (length v.free))
-  where
-    go : (d < length v.free) ⊎ (length v.free ≤ d) → d < length v.free
-    go (inl l) = l
-    go (inr l) = absurd (both_ways (is_free v d) (get_or_past v.free d false l) e)
+free_known v d e = grind (arith, get_or_past v.free d false)
 
 backward_none : (v : View) → v.side ≡ Backward → aggressive_need Backward v ≡ None → (b : ℕ) → lawful v (wanted_block v) b ≡ true → ⊥
 backward_none v s e b l =

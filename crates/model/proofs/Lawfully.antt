@@ -14,6 +14,7 @@ use Rattle.model.proofs.Seeing.{each_at, disk_late}
 use Rattle.model.proofs.Choosing.{four_all, lawful_parts}
 use Rattle.model.proofs.Progress.{on_disks}
 use Rattle.model.proofs.Agreeing.{carried, landed_on, all_landed}
+use Rattle.std.proofs.lemmas.Bool.Decides.{nat_tests}
 
 -- two conditions on a place, in one
 absent_not : (x y z : Bool) → (is_absent (cond x Place.Resident (cond y Place.Absent Place.InFlight)) && not z) ≡ true → (x ≡ false) × (y ≡ true) × (z ≡ false)
@@ -35,14 +36,10 @@ module _ (side : Side) (homes : List ℕ) (frames fetch : ℕ) (requests : List 
 
   -- not named by this boundary: all was brought in and sent out before
   not_named : (b : ℕ) → named_at xs t b ≡ false → (brought xs b t ≡ comings xs b) × (left xs b t ≡ goings xs b)
-  not_named b e =
-      let k = and_parts (eqb (brought xs b t) (brought xs b (t + 1))) (eqb (left xs b t) (left xs b (t + 1))) (not-false (eqb (brought xs b t) (brought xs b (t + 1)) && eqb (left xs b t) (left xs b (t + 1))) e) in
-      (eqb-true (brought xs b t) (brought xs b (t + 1)) k.0 ∙ early_all in_of xs b t started, eqb-true (left xs b t) (left xs b (t + 1)) k.1 ∙ early_all out_of xs b t started)
+  not_named b e = let p = early_all in_of xs b t started in let q = early_all out_of xs b t started in (grind (arith, nat_tests), grind (arith, nat_tests))
 
   un_named : (b : ℕ) → brought xs b t ≡ comings xs b → left xs b t ≡ goings xs b → named_at xs t b ≡ false
-  un_named b e f = ap not (and_from (eqb (brought xs b t) (brought xs b (t + 1))) (eqb (left xs b t) (left xs b (t + 1)))
-      (eq-eqb (brought xs b t) (brought xs b (t + 1)) (e ∙ sym (early_all in_of xs b t started)))
-      (eq-eqb (left xs b t) (left xs b (t + 1)) (f ∙ sym (early_all out_of xs b t started))))
+  un_named b e f = let p = early_all in_of xs b t started in let q = early_all out_of xs b t started in grind (arith, nat_tests)
 
   -- an absent block was not sent out at this boundary, a resident one not brought in
   absent_stays : (b : ℕ) → Absent o xs b t → (j : ℕ) → j < length xs → (get_or xs j none).start ≡ t → (get_or xs j none).sends ≡ b → ⊥

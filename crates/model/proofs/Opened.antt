@@ -79,11 +79,11 @@ module _ (side : Side) (homes : List ℕ) (frames fetch : ℕ) (requests : List 
           (record { exist = exist; rise = rise; in_order = λ i j k l. absurd (omega arith); lawful = λ i l. absurd (omega arith); serves = λ t l. absurd (omega arith) });
       asks = omega (arith, h.position);
       some_here = let b = h.some nonempty in (b.0, 0, b.1, b.2);
-      on_disk = λ b l e. (0, zero_here b l e (h.here_or b));
+      on_disk = λ b l e. (0, let k = h.here_or b in grind arith);
       carries = λ d m. let b = h.some nonempty in (b.0, b.1, subst (λ (n : ℕ). mark s b.0 ≡ Here n) (sym (h.idle d)) b.2);
-      gone_by = λ b g e. zero_away b g e (h.here_or b);
+      gone_by = λ b g e. let k = h.here_or b in grind arith;
       soon = λ d. omega (arith, h.idle d, fit.lasts);
-      requested = λ b l e m. absurd (not_later b l e m (h.here_or b));
+      requested = λ b l e m. let k = h.here_or b in absurd (grind arith);
       last = λ m. absurd (omega (arith, h.landing));
     },
     h.boundary,
@@ -95,18 +95,6 @@ module _ (side : Side) (homes : List ℕ) (frames fetch : ℕ) (requests : List 
 
       h : Filled o s
       h = filled_all o [] begin 0 filled_begin (rising_from 0 (length homes) o (omega arith) (λ i l. omega arith) exist rise) (λ i l. absurd (omega arith))
-
-      zero_here : (b l : ℕ) → mark s b ≡ Here l → (mark s b ≡ Here 0) ⊎ (mark s b ≡ Away 0) → l ≤ idle_from s 0
-      zero_here b l e (inl f) = omega (arith, here_same (mark s b) l 0 e f)
-      zero_here b l e (inr f) = here_away (mark s b) l 0 e f
-
-      zero_away : (b g : ℕ) → mark s b ≡ Away g → (mark s b ≡ Here 0) ⊎ (mark s b ≡ Away 0) → g ≤ s.boundary
-      zero_away b g e (inl f) = here_away (mark s b) 0 g f e
-      zero_away b g e (inr f) = omega (arith, away_same (mark s b) g 0 e f)
-
-      not_later : (b l : ℕ) → mark s b ≡ Here l → s.boundary < l → (mark s b ≡ Here 0) ⊎ (mark s b ≡ Away 0) → ⊥
-      not_later b l e m (inl f) = omega (arith, here_same (mark s b) l 0 e f)
-      not_later b l e m (inr f) = here_away (mark s b) l 0 e f
 
   opens_records : (bs : List ℕ) (s : State) → (opens side homes frames fetch requests bs s).records ≡ s.records
   unfolding opens after

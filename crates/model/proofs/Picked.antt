@@ -80,13 +80,13 @@ home_above low high (x ∷ xs) h b l =
 pub home_picked : (p : ℕ → Bool) (n b : ℕ) → b < n → home (picked p n) b ≡ bit (p b)
 unfolding picked
 home_picked p zero b l = absurd (omega arith)
-home_picked p (suc n) b l = go (p n) refl (λ m. home_picked p n b m) (cases_eq b n)
-  where
-    go : (t : Bool) → p n ≡ t → (b < n → home (picked p n) b ≡ bit (p b)) → (b ≡ n) ⊎ (b ≡ n → ⊥) → home (picked p n ++ cond t (n ∷ []) []) b ≡ bit (p b)
-    go true e h (inl i) = rw i (home_push_same (picked p n) n ∙ ap bit (sym e))
-    go true e h (inr i) = home_push_other (picked p n) n b i ∙ h (omega arith)
-    go false e h (inl i) = rw (append-nil (picked p n), i) (home_above 0 n (picked p n) (picked_rises p n) n (omega arith) ∙ ap bit (sym e))
-    go false e h (inr i) = rw (append-nil (picked p n)) (h (omega arith))
+home_picked p (suc n) b l =
+    let h = λ (m : b < n). home_picked p n b m in
+    let same = home_push_same (picked p n) n in
+    let other = home_push_other (picked p n) n b in
+    let nil = append-nil (picked p n) in
+    let above = home_above 0 n (picked p n) (picked_rises p n) n (omega arith) in
+    grind arith
 
 pub home_picked_past : (p : ℕ → Bool) (n b : ℕ) → n ≤ b → home (picked p n) b ≡ 0
 home_picked_past p n b l = home_above 0 n (picked p n) (picked_rises p n) b l

@@ -18,11 +18,7 @@ count_front p xs i h =
 
 module _ (xs : List Exchange) (ordered : Ordered xs) (i : ℕ) (l : i < length xs) where
   from_here : (j : ℕ) → i ≤ j → j < length xs → (get_or xs i none).start ≤ (get_or xs j none).start
-  from_here j h k = go (cases_eq i j)
-    where
-      go : (i ≡ j) ⊎ (i ≡ j → ⊥) → (get_or xs i none).start ≤ (get_or xs j none).start
-      go (inl e) = omega (arith, ap (λ (n : ℕ). (get_or xs n none).start) e)
-      go (inr e) = let m : i < j = omega arith in ordered i j m k
+  from_here j h k = let m = ordered i j in grind (arith, cases_eq i j)
 
   pub early_front : (f : Exchange → ℕ) (b : ℕ) → early f (take i xs) b (get_or xs i none).start ≡ early f xs b (get_or xs i none).start
   early_front f b = count_front (λ x. eqb (f x) b && ltb x.start (get_or xs i none).start) xs i

@@ -110,12 +110,7 @@ module _ (side : Side) (homes : List ℕ) (frames fetch : ℕ) (requests : List 
     other_idle d i = get_or-set_other s.idle disk d (s.boundary + fetch) 0 i
 
     here_new : (b l : ℕ) → mark next b ≡ Here l → ((b ≡ p) × (l ≡ s.boundary + fetch)) ⊎ (mark s b ≡ Here l)
-    here_new b l e = go (cases_eq b p) (cases_eq b q)
-      where
-        go : (b ≡ p) ⊎ (b ≡ p → ⊥) → (b ≡ q) ⊎ (b ≡ q → ⊥) → ((b ≡ p) × (l ≡ s.boundary + fetch)) ⊎ (mark s b ≡ Here l)
-        go (inl i) j = inl (i, here_same (mark next p) l (s.boundary + fetch) (subst (λ (n : ℕ). mark next n ≡ Here l) i e) new_in)
-        go (inr i) (inl j) = here_away (mark next q) l (s.boundary + 1) (subst (λ (n : ℕ). mark next n ≡ Here l) j e) new_out
-        go (inr i) (inr j) = inr (sym (new_other b i j) ∙ e)
+    here_new b l e = let i = new_in in let j = new_out in let k = new_other b in grind (arith, cases_eq b p, cases_eq b q)
 
     pub here_old : (b l : ℕ) → mark s b ≡ Here l → s.boundary < l → mark next b ≡ Here l
     here_old b l e m = new_other b
@@ -124,19 +119,10 @@ module _ (side : Side) (homes : List ℕ) (frames fetch : ℕ) (requests : List 
         ∙ e
 
     away_new : (b g : ℕ) → mark next b ≡ Away g → (g ≡ s.boundary + 1) ⊎ (mark s b ≡ Away g)
-    away_new b g e = go (cases_eq b p) (cases_eq b q)
-      where
-        go : (b ≡ p) ⊎ (b ≡ p → ⊥) → (b ≡ q) ⊎ (b ≡ q → ⊥) → (g ≡ s.boundary + 1) ⊎ (mark s b ≡ Away g)
-        go (inl i) j = here_away (mark next p) (s.boundary + fetch) g new_in (subst (λ (n : ℕ). mark next n ≡ Away g) i e)
-        go (inr i) (inl j) = inl (away_same (mark next q) g (s.boundary + 1) (subst (λ (n : ℕ). mark next n ≡ Away g) j e) new_out)
-        go (inr i) (inr j) = inr (sym (new_other b i j) ∙ e)
+    away_new b g e = let i = new_in in let j = new_out in let k = new_other b in grind (arith, cases_eq b p, cases_eq b q)
 
     idle_cases : (d : ℕ) → ((idle_from next d ≡ s.boundary + fetch) × (idle_from s d ≤ s.boundary)) ⊎ (idle_from next d ≡ idle_from s d)
-    idle_cases d = go (cases_eq d disk)
-      where
-        go : (d ≡ disk) ⊎ (d ≡ disk → ⊥) → ((idle_from next d ≡ s.boundary + fetch) × (idle_from s d ≤ s.boundary)) ⊎ (idle_from next d ≡ idle_from s d)
-        go (inl i) = inl (subst (λ (n : ℕ). idle_from next n ≡ s.boundary + fetch) (sym i) new_idle, subst (λ (n : ℕ). idle_from s n ≤ s.boundary) (sym i) k.idle)
-        go (inr i) = inr (other_idle d i)
+    idle_cases d = let i = new_idle in let j = other_idle d in let m = k.idle in grind (arith, cases_eq d disk)
 
     pub sound_trades : Requested requests s.position p → Sound side homes fetch requests o a (s.boundary + 1) next
     unfolding after

@@ -100,13 +100,10 @@ starting_reverse : (t : ℕ) (xs : List Exchange) → starting_at t (reverse xs)
 unfolding starting_at
 starting_reverse t [] = refl
 starting_reverse t (x ∷ xs) =
-    ap (λ (ys : List Exchange). starting_at t ys) (reverse-cons x xs)
-    ∙ (starting_append t (reverse xs) (x ∷ [])
-    ∙ (ap (λ (ys : List Exchange). ys ++ starting_at t (x ∷ [])) (starting_reverse t xs) ∙ go (eqb x.start t)))
-  where
-    go : (c : Bool) → reverse (starting_at t xs) ++ cond c (x ∷ []) [] ≡ reverse (cond c (x ∷ starting_at t xs) (starting_at t xs))
-    go true = sym (reverse-cons x (starting_at t xs))
-    go false = append-nil (reverse (starting_at t xs))
+    let e = starting_append t (reverse xs) (x ∷ []) in
+    let f = starting_reverse t xs in
+    let g = reverse-cons x (starting_at t xs) in
+    rw (reverse-cons x xs) (grind (arith, nat_tests, append-nil (reverse (starting_at t xs))))
 
 starts_across : (s fetch T t u : ℕ) → s + fetch ≤ T → t + (u + fetch) ≡ T → eqb (T - (s + fetch)) t ≡ eqb s u
 starts_across s fetch T t u l e = grind (arith, nat_tests)
@@ -116,11 +113,7 @@ starting_reflected : (T fetch t u : ℕ) → t + (u + fetch) ≡ T → (xs : Lis
 unfolding starting_at
 starting_reflected T fetch t u e [] h = refl
 starting_reflected T fetch t u e (x ∷ xs) h =
-    rw (starts_across x.start fetch T t u (h 0 (omega arith)) e, starting_reflected T fetch t u e xs (λ j l. h (suc j) (omega arith))) (go (eqb x.start u))
-  where
-    go : (c : Bool) → cond c (reflected T fetch x ∷ map (reflected T fetch) (starting_at u xs)) (map (reflected T fetch) (starting_at u xs)) ≡ map (reflected T fetch) (cond c (x ∷ starting_at u xs) (starting_at u xs))
-    go true = refl
-    go false = refl
+    rw (starts_across x.start fetch T t u (h 0 (omega arith)) e, starting_reflected T fetch t u e xs (λ j l. h (suc j) (omega arith))) (grind (arith, nat_tests))
 
 pub mirror_order : MirrorOrder
 mirror_order side homes frames fetch requests plan k t u e =

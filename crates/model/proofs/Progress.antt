@@ -135,10 +135,6 @@ module _ (side : Side) (homes : List ℕ) (frames fetch : ℕ) (requests : List 
     abbrev fresh : Exchange
     fresh = record { brings = p; sends = q; start = s.boundary }
 
-    -- a block is not away and here
-    apart : (m : Mark) (t : ℕ) → is_away_at m t ≡ true → is_here_at m t ≡ true → ⊥
-    apart m t e f = grind arith
-
     mark_in_by : (m : Mark) → (q ≡ p → ⊥) → MarkIs fetch o xs s.boundary p m → is_away_at m s.boundary ≡ true → HereFrom fetch o (xs ++ (fresh ∷ [])) s.boundary p (s.boundary + fetch)
     mark_in_by (Here l) ne k e = absurd (false≢true e)
     mark_in_by (Away g) ne k e = mark_in fetch fit.lasts o xs fresh g ne (leb-true g s.boundary e) k
@@ -187,14 +183,14 @@ module _ (side : Side) (homes : List ℕ) (frames fetch : ℕ) (requests : List 
           landing_low = λ t k. each_last xs fresh none (λ _ y. y.start + fetch ≤ t) k;
           marks = λ c. mark c (cases_eq c p) (cases_eq c q);
           size_marks = length-set (set s.marks q (Away (s.boundary + 1))) p (Here (s.boundary + fetch)) ∙ (length-set s.marks q (Away (s.boundary + 1)) ∙ h.size_marks);
-          idle_over = each_push xs fresh none (λ _ y. y.start + fetch ≤ get_or idles (occupies side homes y) 0) (λ j l. over j l (cases_eq (occupies side homes (get_or xs j none)) disk)) (omega (arith, idle_same));
-          idle_low = λ d t k. low d t k (cases_eq d disk);
+          idle_over = each_push xs fresh none (λ _ y. y.start + fetch ≤ get_or idles (occupies side homes y) 0) over (omega (arith, idle_same));
+          idle_low = low;
           size_idle = length-set s.idle disk (s.boundary + fetch) ∙ h.size_idle;
           phase = λ k. omega (arith, h.boundary, each_last xs fresh none (λ _ y. y.start < length a) k);
         }
       where
         ne : p ≡ q → ⊥
-        ne i = apart (get_or s.marks q (Away 0)) s.boundary (subst (λ (n : ℕ). is_away_at (get_or s.marks n (Away 0)) s.boundary ≡ true) i e) f
+        ne i = grind arith
 
         news : List Mark
         news = set (set s.marks q (Away (s.boundary + 1))) p (Here (s.boundary + fetch))
@@ -224,15 +220,19 @@ module _ (side : Side) (homes : List ℕ) (frames fetch : ℕ) (requests : List 
         idle_same : get_or idles disk 0 ≡ s.boundary + fetch
         idle_same = get_or-set_same s.idle disk (s.boundary + fetch) 0 (omega (arith, h.size_idle, on_disks side homes fetch fit fresh kp kq))
 
-        over : (j : ℕ) → j < length xs → (occupies side homes (get_or xs j none) ≡ disk) ⊎ (occupies side homes (get_or xs j none) ≡ disk → ⊥) →
-            (get_or xs j none).start + fetch ≤ get_or idles (occupies side homes (get_or xs j none)) 0
-        over j l (inl i) = omega (arith, h.started j l, idle_same, ap (λ (d : ℕ). get_or idles d 0) i)
-        over j l (inr i) = omega (arith, h.idle_over j l, get_or-set_other s.idle disk (occupies side homes (get_or xs j none)) (s.boundary + fetch) 0 i)
+        over : (j : ℕ) → j < length xs → (get_or xs j none).start + fetch ≤ get_or idles (occupies side homes (get_or xs j none)) 0
+        over j l =
+            let a = h.started j l in let b = h.idle_over j l in
+            let c = get_or-set_other s.idle disk (occupies side homes (get_or xs j none)) (s.boundary + fetch) 0 in
+            grind (arith, idle_same, cases_eq (occupies side homes (get_or xs j none)) disk)
 
         low : (d t : ℕ) → ((j : ℕ) → j < length (xs ++ (fresh ∷ [])) → occupies side homes (get_or (xs ++ (fresh ∷ [])) j none) ≡ d → (get_or (xs ++ (fresh ∷ [])) j none).start + fetch ≤ t) →
-            (d ≡ disk) ⊎ (d ≡ disk → ⊥) → get_or idles d 0 ≤ t
-        low d t k (inl i) = omega (arith, idle_same, ap (λ (n : ℕ). get_or idles n 0) i, each_last xs fresh none (λ _ y. occupies side homes y ≡ d → y.start + fetch ≤ t) k (sym i))
-        low d t k (inr i) = omega (arith, get_or-set_other s.idle disk d (s.boundary + fetch) 0 i, h.idle_low d t (each_front xs (fresh ∷ []) none (λ _ y. occupies side homes y ≡ d → y.start + fetch ≤ t) k))
+            get_or idles d 0 ≤ t
+        low d t k =
+            let a = each_last xs fresh none (λ _ y. occupies side homes y ≡ d → y.start + fetch ≤ t) k in
+            let b = h.idle_low d t (each_front xs (fresh ∷ []) none (λ _ y. occupies side homes y ≡ d → y.start + fetch ≤ t) k) in
+            let c = get_or-set_other s.idle disk d (s.boundary + fetch) 0 in
+            grind (arith, idle_same, cases_eq d disk)
 
   -- a step: what tells an act is the counts that it leaves
   tells_step : (o : List ℕ) (a : List Act) (xs : List Exchange) (s : State) (act : Act) (p w : ℕ) → p ≡ served (a ++ (act ∷ [])) → w ≡ waited (a ++ (act ∷ [])) → Tells side homes fetch o a xs s →

@@ -82,7 +82,7 @@ module _ (side : Side) (homes : List ℕ) (frames fetch : ℕ) (requests : List 
     was_here = here_is (mark s q) s.boundary k.here
 
     differ : p ≡ q → ⊥
-    differ e = here_away (mark s q) was_here.0 was_away.0 was_here.1 (subst (λ (n : ℕ). mark s n ≡ Away was_away.0) e was_away.1)
+    differ e = let i = k.away in let j = k.here in grind arith
 
     disk_known : disk < most_disks
     disk_known = on_disks side homes fetch fit x k.known_in k.known_out

@@ -107,7 +107,7 @@ module _ (side : Side) (homes : List ℕ) (frames fetch : ℕ) (requests : List 
       kept : (x : State) (p q : ℕ) → In x → Ahead side homes frames fetch requests x p q → mark x c ≡ Here l → mark (starts side homes frames fetch requests x p q) c ≡ Here l
       kept x p q w k f =
           new_other side homes frames fetch requests fit o a x p q w.sound k.takes_it c
-          (λ i. let g = away_is (mark x p) x.boundary k.takes_it.away in here_away (mark x p) l g.0 (subst (λ (n : ℕ). mark x n ≡ Here l) i f) g.1)
+          (λ (i : c ≡ p). let g = k.takes_it.away in grind arith)
           (λ i. k.other (sym i ∙ ap (λ (n : ℕ). get_or requests n 0) (sym w.position)))
           ∙ f
 
@@ -143,10 +143,7 @@ module _ (side : Side) (homes : List ℕ) (frames fetch : ℕ) (requests : List 
           not_in e = not_disk (ap (λ (n : ℕ). get_or homes n 0) e)
 
           not_out : c ≡ q → ⊥
-          not_out e =
-              let g = here_is (mark x q) x.boundary k.takes_it.here in
-              let i = away_is (mark x c) t h.away in
-              here_away (mark x c) g.0 i.0 (subst (λ (n : ℕ). mark x n ≡ Here g.0) (sym e) g.1) i.1
+          not_out e = let i = k.takes_it.here in let j = h.away in grind arith
 
   abbrev Result : ℕ → State → Type 0
   Result deadline z = In z × Stands side homes fetch c t deadline z
@@ -173,10 +170,7 @@ module _ (side : Side) (homes : List ℕ) (frames fetch : ℕ) (requests : List 
 
   takes_with : is_away_at (mark s c) t ≡ true → (q : ℕ) → q < length homes → is_here_at (mark s q) t ≡ true → idle_from s (occupies side homes (record { brings = c; sends = q; start = t })) ≤ t →
       Takes side homes frames fetch requests s c q
-  takes_with e q i f g = record { known_in = c_known; known_out = q_known; away = e; here = f; idle = g }
-    where
-      q_known : q < length homes
-      q_known = i
+  takes_with e q i f g = record { known_in = c_known; known_out = i; away = e; here = f; idle = g }
 
   -- once all disks are idle, need names a block
   idle_names : is_away_at (mark s c) t ≡ true → rule.need v ≡ None → ((d : ℕ) → idle_from s d ≤ t) → ⊥
@@ -227,11 +221,7 @@ module _ (side : Side) (homes : List ℕ) (frames fetch : ℕ) (requests : List 
   waits_blocked e f deadline idle i = go (sides side) (cases_lt t (idle_from s (get_or homes c 0)))
     where
       early : t < deadline
-      early = sooner (cases_eq t deadline)
-        where
-          sooner : (t ≡ deadline) ⊎ (t ≡ deadline → ⊥) → t < deadline
-          sooner (inl j) = absurd (idle_names e f (λ d. omega (arith, idle d)))
-          sooner (inr j) = omega arith
+      early = let n = λ (j : t ≡ deadline). idle_names e f (λ d. omega (arith, idle d)) in omega arith
 
       go : (side ≡ Forward) ⊎ (side ≡ Backward) → (t < idle_from s (get_or homes c 0)) ⊎ (idle_from s (get_or homes c 0) ≤ t) → Result deadline (asks_all side homes frames fetch requests rule s)
       go (inl z) (inl j) = waits_behind z e f deadline j (idle (get_or homes c 0))

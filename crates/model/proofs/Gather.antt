@@ -26,6 +26,18 @@ pub record Extends (o : List ℕ) (a : List Act) (xs : List Exchange) (plan : Pl
   pub trades : plan.exchanges ≡ xs ++ more_exchanges
   pub later : (j : ℕ) → j < length more_exchanges → length a ≤ (get_or more_exchanges j none).start
 
+extends_act : (o : List ℕ) (a : List Act) (xs : List Exchange) (act : Act) (plan : Plan) → Extends o (a ++ (act ∷ [])) xs plan → Extends o a xs plan
+extends_act o a xs act plan e =
+    record {
+      more_opening = e.more_opening;
+      more_acts = act ∷ e.more_acts;
+      more_exchanges = e.more_exchanges;
+      opens = e.opens;
+      acts = e.acts ∙ append_assoc a (act ∷ []) e.more_acts;
+      trades = e.trades;
+      later = λ j l. omega (arith, e.later j l, length_push a act);
+    }
+
 pub extends : (cs : List Command) (o : List ℕ) (a : List Act) (xs : List Exchange) → Extends o a xs (gather o a xs cs)
 extends [] o a xs =
     record { more_opening = []; more_acts = []; more_exchanges = []; opens = sym (append-nil o); acts = sym (append-nil a); trades = sym (append-nil xs); later = λ j l. absurd (omega arith) }
@@ -49,28 +61,8 @@ extends (Trades p q ∷ cs) o a xs =
         (j : ℕ) → j < length (x ∷ ys) → length a ≤ (get_or (x ∷ ys) j none).start
     at_or_after x ys i h zero l = omega arith
     at_or_after x ys i h (suc j) l = h j (omega arith)
-extends (Serves ∷ cs) o a xs =
-    let e = extends cs o (a ++ (Serve ∷ [])) xs in
-    record {
-      more_opening = e.more_opening;
-      more_acts = Serve ∷ e.more_acts;
-      more_exchanges = e.more_exchanges;
-      opens = e.opens;
-      acts = e.acts ∙ append_assoc a (Serve ∷ []) e.more_acts;
-      trades = e.trades;
-      later = λ j l. omega (arith, e.later j l, length_push a Serve);
-    }
-extends (Waits ∷ cs) o a xs =
-    let e = extends cs o (a ++ (Wait ∷ [])) xs in
-    record {
-      more_opening = e.more_opening;
-      more_acts = Wait ∷ e.more_acts;
-      more_exchanges = e.more_exchanges;
-      opens = e.opens;
-      acts = e.acts ∙ append_assoc a (Wait ∷ []) e.more_acts;
-      trades = e.trades;
-      later = λ j l. omega (arith, e.later j l, length_push a Wait);
-    }
+extends (Serves ∷ cs) o a xs = extends_act o a xs Serve (gather o (a ++ (Serve ∷ [])) xs cs) (extends cs o (a ++ (Serve ∷ [])) xs)
+extends (Waits ∷ cs) o a xs = extends_act o a xs Wait (gather o (a ++ (Wait ∷ [])) xs cs) (extends cs o (a ++ (Wait ∷ [])) xs)
 extends (Ends ∷ cs) o a xs = extends cs o a xs
 
 -- the phase that a command leads to

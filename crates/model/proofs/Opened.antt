@@ -42,7 +42,7 @@ module _ (side : Side) (homes : List ℕ) (frames fetch : ℕ) (requests : List 
   unfolding after
   filled_opens o s b h low known = record {
     tells_it = tells_opens side homes frames fetch requests 0 fit o s b h.tells_it low known;
-    here_or = λ c. go c (cases_eq c b);
+    here_or = λ c. let k = h.here_or c in let i = get_or-set_other s.marks b c (Here 0) (Away 0) in grind (arith, here, cases_eq c b);
     some = λ l. (b, known, here);
     idle = h.idle;
     landing = h.landing;
@@ -53,10 +53,6 @@ module _ (side : Side) (homes : List ℕ) (frames fetch : ℕ) (requests : List 
     where
       here : get_or (set s.marks b (Here 0)) b (Away 0) ≡ Here 0
       here = get_or-set_same s.marks b (Here 0) (Away 0) (omega (arith, h.tells_it.size_marks, fit.few))
-
-      go : (c : ℕ) → (c ≡ b) ⊎ (c ≡ b → ⊥) → (get_or (set s.marks b (Here 0)) c (Away 0) ≡ Here 0) ⊎ (get_or (set s.marks b (Here 0)) c (Away 0) ≡ Away 0)
-      go c (inl e) = inl (subst (λ (n : ℕ). get_or (set s.marks b (Here 0)) n (Away 0) ≡ Here 0) (sym e) here)
-      go c (inr e) = subst (λ (m : Mark). (m ≡ Here 0) ⊎ (m ≡ Away 0)) (sym (get_or-set_other s.marks b c (Here 0) (Away 0) e)) (h.here_or c)
 
   filled_all : (bs o : List ℕ) (s : State) (low : ℕ) → Filled o s → Rising low (length homes) bs → ((i : ℕ) → i < length o → get_or o i 0 < low) → Filled (o ++ bs) (opens side homes frames fetch requests bs s)
   unfolding opens

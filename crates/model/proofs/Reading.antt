@@ -16,11 +16,7 @@ pass_clean (t ∷ ts) h = rw h.0 (pass_clean ts h.1)
 
 pub clean_pass : (ts : List Test) → first ts ≡ Clean → AllPass ts
 clean_pass [] h = tt
-clean_pass (t ∷ ts) h = go (λ k. clean_pass ts k) t.passes refl h
-  where
-    go : (first ts ≡ Clean → AllPass ts) → (b : Bool) → t.passes ≡ b → cond b (first ts) (Faulty t.cause) ≡ Clean → (t.passes ≡ true) × AllPass ts
-    go more true e k = (e, more k)
-    go more false e k = absurd (cc)
+clean_pass (t ∷ ts) h = (grind arith, clean_pass ts (grind arith))
 
 -- the letter of a command that was found, and its blocks
 opens_letter : (l a b d : ℕ) → by_letter l a b ≡ Known (Opens d) → (l ≡ 79) × (a ≡ d)

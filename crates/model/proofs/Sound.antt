@@ -135,19 +135,15 @@ module _ (side : Side) (homes : List ℕ) (frames fetch : ℕ) (requests : List 
           some_here = (p, s.boundary + fetch, k.known_in, new_in);
           on_disk = λ b l e. on b l (here_new b l e);
           carries = λ d m. carry d m (idle_cases d);
-          gone_by = λ b g e. by b g (away_new b g e);
-          soon = λ d. before d (idle_cases d);
+          gone_by = λ b g e. let i = away_new b g e in let j = h.gone_by b g in grind arith;
+          soon = λ d. let i = idle_cases d in let j = h.soon d in grind arith;
           requested = λ b l e m. req b l m (here_new b l e);
           last = λ m. (p, new_in);
         }
       where
         on : (b l : ℕ) → ((b ≡ p) × (l ≡ s.boundary + fetch)) ⊎ (mark s b ≡ Here l) → (d : ℕ) × (l ≤ idle_from next d)
         on b l (inl i) = (disk, omega (arith, new_idle, i.1))
-        on b l (inr e) = let j = h.on_disk b l e in (j.0, up j.0 j.1 (idle_cases j.0))
-          where
-            up : (d : ℕ) → l ≤ idle_from s d → ((idle_from next d ≡ s.boundary + fetch) × (idle_from s d ≤ s.boundary)) ⊎ (idle_from next d ≡ idle_from s d) → l ≤ idle_from next d
-            up d m (inl i) = omega (arith, i.0, i.1)
-            up d m (inr i) = omega arith
+        on b l (inr e) = let j = h.on_disk b l e in (j.0, let i = idle_cases j.0 in let m = j.1 in grind arith)
 
         carry : (d : ℕ) → s.boundary + 1 ≤ idle_from next d → ((idle_from next d ≡ s.boundary + fetch) × (idle_from s d ≤ s.boundary)) ⊎ (idle_from next d ≡ idle_from s d) →
             (b : ℕ) × (b < length homes) × (mark next b ≡ Here (idle_from next d))
@@ -155,14 +151,6 @@ module _ (side : Side) (homes : List ℕ) (frames fetch : ℕ) (requests : List 
         carry d m (inr i) =
             let j = h.carries d (omega arith) in
             (j.0, j.1, subst (λ (n : ℕ). mark next j.0 ≡ Here n) (sym i) (here_old j.0 (idle_from s d) j.2 (omega arith)))
-
-        by : (b g : ℕ) → (g ≡ s.boundary + 1) ⊎ (mark s b ≡ Away g) → g ≤ s.boundary + 1
-        by b g (inl i) = omega arith
-        by b g (inr e) = h.gone_by b g e
-
-        before : (d : ℕ) → ((idle_from next d ≡ s.boundary + fetch) × (idle_from s d ≤ s.boundary)) ⊎ (idle_from next d ≡ idle_from s d) → idle_from next d + 1 ≤ s.boundary + 1 + fetch
-        before d (inl i) = omega (arith, i.0)
-        before d (inr i) = omega (arith, h.soon d)
 
         req : (b l : ℕ) → s.boundary < l → ((b ≡ p) × (l ≡ s.boundary + fetch)) ⊎ (mark s b ≡ Here l) → Requested requests s.position b
         req b l m (inl i) = subst (λ (n : ℕ). Requested requests s.position n) (sym i.0) asked

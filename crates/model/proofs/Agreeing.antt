@@ -1,7 +1,7 @@
 -- What a rule sees of a state of the pass is what it sees of the plan so far, told by counting.
-use Rattle.std.proofs.Common.{◌≡◌, ℕ, zero, suc, ◌+◌, ◌-◌, ◌<◌, ◌≤◌, Bool, true, false, ◌&&◌, eqb, ltb, leb, ◌⊎◌, List, [], ◌∷◌, map, length, get_or, sym, refl, ap, ◌∙◌, inl, inr, arith}
+use Rattle.std.proofs.Common.{◌≡◌, ℕ, zero, suc, ◌+◌, ◌-◌, ◌<◌, ◌≤◌, Bool, true, false, ◌&&◌, eqb, ltb, leb, List, [], ◌∷◌, map, length, get_or, sym, refl, ap, ◌∙◌, arith}
 use Rattle.std.proofs.lemmas.List.{get_or-map, length-map, ext_get_or}
-use Rattle.std.proofs.lemmas.Bool.{le-leb, lt-leb, eq-eqb, ne_eqb, cases_lt}
+use Rattle.std.proofs.lemmas.Bool.Decides.{nat_tests}
 use Rattle.model.specs.Timetable.{Exchange, none, Act, Side, occupies, bit, count}
 use Rattle.model.specs.Verdict.{Mark, Away, Here, State, most_disks}
 use Rattle.model.specs.Pass.{each, place_by, named_by, seen}
@@ -11,7 +11,6 @@ use Rattle.model.proofs.Marks.{Started, MarkIs, HereFrom, early_all, out_of, in_
 use Rattle.model.proofs.Progress.{Tells}
 use Rattle.model.proofs.Seeing.{mark, idle_from, each_at, each_length}
 use Rattle.model.proofs.Steady.{landed_started}
-use Rattle.std.proofs.lemmas.Bool.Decides.{nat_tests}
 
 each_same : {X : Type 0} (f g : ℕ → X) (n : ℕ) → ((b : ℕ) → b < n → f b ≡ g b) → each f n ≡ each g n
 unfolding each

@@ -1,14 +1,14 @@
 -- How many exchanges a plan that keeps the model can have, and how large the plan of a pass is.
-use Rattle.std.proofs.Common.{◌≡◌, ℕ, zero, suc, ◌+◌, ◌*◌, ◌<◌, ◌≤◌, Bool, eqb, ◌⊎◌, List, [], ◌∷◌, ◌++◌, length, get_or, take, sym, ap, ◌∙◌, subst, inl, inr, mul_assoc, suc-mul, mul_comm, zero-mul, le_of_mul-le-mul_right, add-one, arith, add-mul, true, false, refl}
+use Rattle.std.proofs.Common.{◌≡◌, ℕ, zero, suc, ◌+◌, ◌*◌, ◌<◌, ◌≤◌, Bool, eqb, List, [], ◌∷◌, ◌++◌, length, get_or, take, sym, ap, ◌∙◌, subst, mul_assoc, suc-mul, mul_comm, zero-mul, le_of_mul-le-mul_right, arith, add-mul, true, false, refl}
 use Rattle.std.proofs.lemmas.List.{take_all}
-use Rattle.std.proofs.lemmas.Bool.{eq-eqb, ne_eqb, cases_eq, eqb-true}
+use Rattle.std.proofs.lemmas.Bool.{eqb-true}
+use Rattle.std.proofs.Math.Seq.{take-suc}
 use Rattle.model.specs.Timetable.{Exchange, none, Side, occupies, bit, count, KeepsPlainly}
 use Rattle.model.specs.Verdict.{most_disks}
 use Rattle.model.specs.PassLaws.{FewExchanges}
 use Rattle.model.proofs.Counting.{count_push}
 use Rattle.model.proofs.Plainly.{plain_reading}
 use Rattle.model.proofs.Picked.{sum_below}
-use Rattle.std.proofs.Math.Seq.{take-suc}
 use Rattle.model.proofs.Reflected.{sum_count}
 use Rattle.model.proofs.Progress.{on_disks}
 

@@ -1,11 +1,11 @@
 -- Need's law for the two rules, on both sides.
-use Rattle.std.proofs.Common.{◌≡◌, ℕ, zero, suc, ◌+◌, ◌<◌, ◌≤◌, Bool, true, false, cond, ◌&&◌, eqb, ltb, ◌⊎◌, [], ◌∷◌, length, get_or, sym, refl, ap, ◌∙◌, subst, inl, inr, arith}
+use Rattle.std.proofs.Common.{◌≡◌, ℕ, zero, suc, ◌+◌, ◌<◌, ◌≤◌, Bool, true, false, cond, ◌&&◌, eqb, ltb, ◌⊎◌, [], ◌∷◌, length, get_or, sym, refl, subst, inl, inr, arith}
 use Rattle.std.proofs.lemmas.List.{get_or_past}
-use Rattle.std.proofs.lemmas.Bool.{both_ways, and_parts, and_from, ltb-true, lt-ltb, eqb-true, eq-eqb, cases_eq, cases_lt, false_from_ne_true, ltb-false}
+use Rattle.std.proofs.lemmas.Bool.{both_ways, and_parts, and_from, ltb-true, lt-ltb, eqb-true, eq-eqb, cases_eq, false_from_ne_true, ltb-false}
+use Rattle.std.proofs.lemmas.Option.{same_Some}
 use Rattle.model.specs.Timetable.{Side, Forward, Backward, occupies}
 use Rattle.model.specs.View.{Option, None, Some, View, blocks, wanted_block, is_free, missing, may_go_out, lawful, all_of, disk_of, next_use, better_if, greatest, latest, latest_on, latest_of}
 use Rattle.model.specs.Rules.{Wants, NeedLaw, or_else, lowest_free, aggressive, aggressive_need, demand}
-use Rattle.std.proofs.lemmas.Option.{same_Some}
 
 -- four tests that all pass
 pub all_four : (p q r s : Bool) → all_of (p ∷ q ∷ r ∷ s ∷ []) ≡ true → (p ≡ true) × (q ≡ true) × (r ≡ true) × (s ≡ true)

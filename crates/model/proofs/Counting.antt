@@ -1,8 +1,8 @@
 -- Counting exchanges, and the opening content, one more at a time.
 use Rattle.std.proofs.Common.{◌≡◌, ℕ, zero, suc, ◌+◌, ◌<◌, ◌≤◌, Bool, false, eqb, List, [], ◌∷◌, ◌++◌, length, get_or, sym, refl, ap, ◌∙◌, add_assoc, zero-add, arith, reverse, true}
 use Rattle.std.proofs.lemmas.Bool.{eq-eqb, ne_eqb}
-use Rattle.model.specs.Timetable.{Exchange, none, bit, count, home, one_or, Act, Serve, Wait, served, waited}
 use mathlib.Core.List.{reverse-cons}
+use Rattle.model.specs.Timetable.{Exchange, none, bit, count, home, one_or, Act, Serve, Wait, served, waited}
 
 pub count_append : (p : Exchange → Bool) (xs ys : List Exchange) → count p (xs ++ ys) ≡ count p xs + count p ys
 unfolding count

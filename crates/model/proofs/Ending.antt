@@ -1,6 +1,7 @@
 -- A pass ends: from its opening on, step by step, all requests are served in time.
 use Rattle.std.proofs.Common.{◌≡◌, ℕ, zero, suc, ◌+◌, ◌-◌, ◌*◌, ◌<◌, ◌≤◌, Bool, true, false, ◌⊎◌, List, length, get_or, sym, refl, ap, ◌∙◌, subst, inl, inr, mul-suc, arith}
 use Rattle.std.proofs.lemmas.Bool.{le-leb, eq-eqb, ne_eqb}
+use Rattle.std.proofs.lemmas.Bool.Decides.{nat_tests}
 use Rattle.model.specs.Timetable.{Side}
 use Rattle.model.specs.PlanBytes.{Waits}
 use Rattle.model.specs.Verdict.{Mark, Away, Here, is_away_at, is_here_at, State, after}
@@ -10,7 +11,6 @@ use Rattle.model.specs.Pass.{Course, can_serve, steps, is_over, asks_all, turn, 
 use Rattle.model.proofs.Seeing.{mark}
 use Rattle.model.proofs.Sound.{Sound, sound_waits, sound_serves}
 use Rattle.model.proofs.Turning.{Within, Stands, lands, blocked, behind, Ready, lands_by, blocked_by, behind_by, boundary_stands}
-use Rattle.std.proofs.lemmas.Bool.Decides.{nat_tests}
 
 away_later : (m : Mark) (t : ℕ) → is_away_at m t ≡ true → is_away_at m (t + 1) ≡ true
 away_later m t e = grind (arith, nat_tests)

@@ -2,13 +2,14 @@
 use Rattle.std.proofs.Common.{◌≡◌, ℕ, zero, suc, ◌+◌, ◌-◌, ◌<◌, ◌≤◌, Bool, true, false, cond, ◌⊎◌, List, [], ◌∷◌, ◌++◌, length, get_or, take, sym, refl, ap, ◌∙◌, subst, inl, inr, arith}
 use Rattle.std.proofs.lemmas.List.{append-nil, length_push, get_or_append_left, get_or_push, take-append-le, take_at}
 use Rattle.std.proofs.lemmas.Bool.{both_ways, le-ltb, eqb-false, cases_eq}
+use Rattle.std.proofs.lemmas.Bool.Decides.{nat_tests}
 use Rattle.model.specs.Timetable.{Exchange, none, Act, Serve, Wait, Side, served, wanted, ResidentDuring}
 use Rattle.model.specs.Verdict.{State, after, most_disks}
 use Rattle.model.specs.Statements.{Fit}
-use Rattle.model.specs.View.{Option, None, Some, View, missing, is_free, wanted_block}
+use Rattle.model.specs.View.{Option, None, Some, View, missing, wanted_block}
 use Rattle.model.specs.Rules.{Rule, NeedLaw}
-use Rattle.model.specs.Pass.{Course, seen, starts, due, screened, takes_need, takes_ahead, can_serve, steps, is_over, asks_need, asks_ahead, asks_disks, asks_all, turn, next_by, runs}
-use Rattle.model.specs.Follows.{before, view_at, on_need, on_ahead, need_starts, ahead_starts, with_disks, with_answers}
+use Rattle.model.specs.Pass.{Course, seen, due, takes_need, can_serve, steps, is_over, asks_need, asks_ahead, asks_disks, asks_all, turn, next_by, runs}
+use Rattle.model.specs.Follows.{before, view_at, need_starts, ahead_starts, with_disks, with_answers}
 use Rattle.model.proofs.Marks.{resident_here}
 use Rattle.model.proofs.Seeing.{mark, lawful_takes}
 use Rattle.model.proofs.Sound.{later_sound}
@@ -16,7 +17,6 @@ use Rattle.model.proofs.Turning.{Within, within_trades, one_disk, all_disks}
 use Rattle.model.proofs.Ending.{Runs, turn_goes, ready_fresh}
 use Rattle.model.proofs.Agreeing.{view_same}
 use Rattle.model.proofs.Gather.{before_all}
-use Rattle.std.proofs.lemmas.Bool.Decides.{nat_tests}
 
 -- what starts at boundary t leaves what started before an earlier one
 before_append : (u : ℕ) (xs ys : List Exchange) → before u (xs ++ ys) ≡ before u xs ++ before u ys

@@ -1,6 +1,7 @@
 -- Lawful to a rule and lawful in the model are one.
-use Rattle.std.proofs.Common.{◌≡◌, ℕ, ◌+◌, ◌<◌, Bool, true, false, cond, not, ◌&&◌, eqb, List, length, get_or, take, sym, ap, ◌∙◌, subst, arith}
-use Rattle.std.proofs.lemmas.Bool.{and_parts, and_from, eqb-true, eq-eqb, ne_eqb, lt-ltb, not-false}
+use Rattle.std.proofs.Common.{◌≡◌, ℕ, ◌+◌, ◌<◌, Bool, true, false, cond, not, ◌&&◌, eqb, List, length, get_or, take, sym, ◌∙◌, subst, arith}
+use Rattle.std.proofs.lemmas.Bool.{eqb-true, eq-eqb, ne_eqb, lt-ltb}
+use Rattle.std.proofs.lemmas.Bool.Decides.{nat_tests}
 use Rattle.model.specs.Timetable.{Exchange, none, Act, Side, occupies, count, home, landed, brought, left, Lawful, Resident, Absent}
 use Rattle.model.specs.Verdict.{most_disks}
 use Rattle.model.specs.Statements.{Fit}
@@ -14,7 +15,6 @@ use Rattle.model.proofs.Seeing.{each_at, disk_late}
 use Rattle.model.proofs.Choosing.{four_all, lawful_parts}
 use Rattle.model.proofs.Progress.{on_disks}
 use Rattle.model.proofs.Agreeing.{carried, landed_on, all_landed}
-use Rattle.std.proofs.lemmas.Bool.Decides.{nat_tests}
 
 -- two conditions on a place, in one
 absent_not : (x y z : Bool) → (is_absent (cond x Place.Resident (cond y Place.Absent Place.InFlight)) && not z) ≡ true → (x ≡ false) × (y ≡ true) × (z ≡ false)

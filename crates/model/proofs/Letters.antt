@@ -1,14 +1,14 @@
--- The letter of a step stands where the bytes before it end.
+-- Where the letter of a step stands in the bytes of a plan, and how many bytes a plan has.
 use Rattle.std.proofs.Common.{◌≡◌, ℕ, suc, ◌+◌, ◌*◌, ◌<◌, eqb, ltb, leb, List, [], ◌∷◌, ◌++◌, map, length, get_or, take, drop, sym, refl, ap, ◌∙◌, add-zero, arith}
 use Rattle.std.specs.List.{flat_map}
 use Rattle.std.proofs.lemmas.List.{append_assoc, length-append, length-take-le, take-append-drop, drop_more, get_or_at}
 use Rattle.std.proofs.lemmas.Bool.{le-ltb, lt-ltb}
-use Rattle.model.specs.Timetable.{Exchange, none, bit, count, Act, Serve, Wait, Plan}
-use Rattle.model.specs.PlanBytes.{Command, Opens, Ends, command_bytes, act_command, trade_command, starting_at, step_commands, plan_commands, plan_bytes}
-use Rattle.model.specs.Layout.{letter, letter_at, StepLetters, PlanSize}
-use Rattle.model.proofs.Counting.{count_none, count_split, count_each}
 use Rattle.std.proofs.lemmas.List.Concat.{flat_map-append}
 use Rattle.std.proofs.lemmas.Bool.Decides.{nat_tests}
+use Rattle.model.specs.Timetable.{Exchange, none, bit, count, Act, Serve, Wait, Plan}
+use Rattle.model.specs.PlanBytes.{Command, Opens, Ends, command_bytes, act_command, trade_command, starting_at, step_commands, plan_commands, plan_bytes}
+use Rattle.model.specs.Layout.{letter, letter_at, PlanSize}
+use Rattle.model.proofs.Counting.{count_none, count_split, count_each}
 use Rattle.model.proofs.Writing.{steps_append}
 
 length_opens : (bs : List ℕ) → length (flat_map command_bytes (map Opens bs)) ≡ 3 * length bs

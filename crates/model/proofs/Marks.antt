@@ -2,10 +2,10 @@
 -- keeps that true.
 use Rattle.std.proofs.Common.{◌≡◌, ℕ, ◌+◌, ◌<◌, ◌≤◌, true, ◌&&◌, eqb, ltb, leb, List, [], ◌∷◌, ◌++◌, length, get_or, refl, ap, arith}
 use Rattle.std.proofs.lemmas.Bool.{false≢true, eq-eqb, ne_eqb, le-leb, leb-true}
+use Rattle.std.proofs.lemmas.Bool.Decides.{nat_tests}
 use Rattle.model.specs.Timetable.{Exchange, none, bit, count, home, landed, brought, left, Resident, Absent, ResidentDuring}
 use Rattle.model.specs.Verdict.{Mark, Here, Away, is_here_at, is_away_at}
 use Rattle.model.proofs.Counting.{count_push, count_same, count_le, count_tight}
-use Rattle.std.proofs.lemmas.Bool.Decides.{nat_tests}
 
 -- the two blocks of an exchange
 abbrev pub in_of : Exchange → ℕ

@@ -2,11 +2,11 @@
 use Rattle.std.proofs.Common.{◌≡◌, ℕ, zero, suc, ◌+◌, ◌<◌, ◌≤◌, Bool, true, ◌&&◌, eqb, ltb, leb, ◌⊎◌, List, [], ◌∷◌, ◌++◌, length, get_or, take, sym, refl, ap, ◌∙◌, subst, inl, inr, add-one, arith}
 use Rattle.std.proofs.lemmas.List.{take_more, take_all}
 use Rattle.std.proofs.lemmas.Bool.{ltb-true, leb-true, cases_order, and_parts}
+use Rattle.std.proofs.lemmas.Bool.Decides.{nat_tests}
 use Rattle.model.specs.Timetable.{Exchange, Act, Serve, Wait, Side, Plan, count, home, landed, left, served, wanted, ResidentDuring}
 use Rattle.model.specs.Rules.{Rule}
 use Rattle.model.specs.Follows.{before, with_answers, Follows}
 use Rattle.model.proofs.Gather.{before_zero, before_all}
-use Rattle.std.proofs.lemmas.Bool.Decides.{nat_tests}
 
 -- a test that passes only before boundary u counts the same before it
 count_before : (p : Exchange → Bool) (u : ℕ) → ((x : Exchange) → p x ≡ true → x.start < u) → (xs : List Exchange) → count p (before u xs) ≡ count p xs

@@ -1,17 +1,17 @@
 -- The state of a pass after its opening.
-use Rattle.std.proofs.Common.{◌≡◌, ℕ, ◌+◌, ◌<◌, ◌≤◌, ◌⊎◌, List, [], ◌∷◌, ◌++◌, length, get_or, set, sym, refl, subst, inl, inr, arith}
+use Rattle.std.proofs.Common.{◌≡◌, ℕ, ◌+◌, ◌<◌, ◌≤◌, ◌⊎◌, List, [], ◌∷◌, ◌++◌, length, get_or, set, sym, refl, subst, inr, arith}
 use Rattle.std.proofs.lemmas.List.{append_assoc, append-nil, get_or-set_same, get_or-set_other}
 use Rattle.std.proofs.lemmas.Bool.{cases_eq}
 use Rattle.model.specs.Timetable.{Exchange, Side}
 use Rattle.model.specs.PlanBytes.{Opens}
-use Rattle.model.specs.Verdict.{Mark, Away, Here, State, begin, after, blank_marks, blank_idle, most_blocks, most_disks}
+use Rattle.model.specs.Verdict.{Away, Here, State, begin, after, blank_marks, blank_idle, most_blocks, most_disks}
 use Rattle.model.specs.Statements.{Fit}
 use Rattle.model.specs.Pass.{opens}
 use Rattle.model.proofs.Progress.{Tells, tells_begin, tells_opens, each_push, get_or_blank}
 use Rattle.model.proofs.Accepts.{Sofar}
 use Rattle.model.proofs.Picked.{Rising, rising_room, rising_from}
 use Rattle.model.proofs.Seeing.{mark, idle_from}
-use Rattle.model.proofs.Sound.{Sound, here_away, here_same, away_same}
+use Rattle.model.proofs.Sound.{Sound}
 
 module _ (side : Side) (homes : List ℕ) (frames fetch : ℕ) (requests : List ℕ) (fit : Fit homes fetch) where
   -- a state in its opening, with the blocks o listed so far

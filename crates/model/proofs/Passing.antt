@@ -5,7 +5,7 @@ use Rattle.model.specs.Timetable.{Side, Keeps}
 use Rattle.model.specs.Verdict.{begin}
 use Rattle.model.specs.Rules.{Rule, NeedLaw}
 use Rattle.model.specs.Pass.{Course, opens, runs, passed, plan_from}
-use Rattle.model.specs.PassLaws.{RulesMeetTheLaw, Playable, FitOpening, PassKeeps, PassEnds}
+use Rattle.model.specs.PassLaws.{RulesMeetTheLaw, Playable, FitOpening}
 use Rattle.model.proofs.Choosing.{aggressive_law, demand_law}
 use Rattle.model.proofs.Sound.{Sound}
 use Rattle.model.proofs.Ending.{Runs, Ended, ends, over_ends, ready_fresh}

@@ -1,5 +1,5 @@
 -- How the state of a verdict tells the plan read so far: its opening content, its acts and its exchanges.
-use Rattle.std.proofs.Common.{◌≡◌, ℕ, zero, suc, ◌+◌, ◌<◌, ◌≤◌, true, ◌⊎◌, List, [], ◌∷◌, ◌++◌, length, get_or, set, replicate, sym, refl, ap, ◌∙◌, subst, inl, inr, arith}
+use Rattle.std.proofs.Common.{◌≡◌, ℕ, ◌+◌, ◌<◌, ◌≤◌, true, ◌⊎◌, List, [], ◌∷◌, ◌++◌, length, get_or, set, replicate, sym, refl, ap, ◌∙◌, subst, inl, inr, arith}
 use Rattle.std.proofs.lemmas.List.{get_or_append_left, get_or_push, length_push, get_or-set_same, get_or-set_other, length-set, length-replicate, length-append, get_or-replicate, get_or_past}
 use Rattle.std.proofs.lemmas.Bool.{false≢true, cases_eq, leb-true}
 use Rattle.model.specs.Timetable.{Exchange, none, count, home, Lawful, Side, occupies, Forward, Backward, Act, Serve, Wait, served, waited}

@@ -1,9 +1,9 @@
 -- Commands and their bytes: what stands at the front of the rest, and how it is written.
-use Rattle.std.proofs.Common.{◌≡◌, ℕ, ◌+◌, ◌*◌, ◌/◌, ◌%◌, ◌<◌, ◌≤◌, Bool, true, false, cond, List, [], ◌∷◌, ◌++◌, length, get_or, drop, sym, refl, ap, ◌∙◌, arith}
+use Rattle.std.proofs.Common.{◌≡◌, ℕ, ◌+◌, ◌<◌, ◌≤◌, true, List, [], ◌∷◌, ◌++◌, length, get_or, drop, sym, refl, ap, ◌∙◌, arith}
 use lib.Dec.{eqb-suc-zero}
 use Rattle.std.proofs.lemmas.Bool.Decides.{nat_tests}
 use Rattle.model.specs.PlanBytes.{Command, Opens, Trades, Serves, Waits, Ends, command_bytes, low, high}
-use Rattle.model.specs.Verdict.{Missing, Known, found, by_letter, block, size, Test, Clean, Faulty, first}
+use Rattle.model.specs.Verdict.{Missing, Known, found, by_letter, block, size, Test, Clean, first}
 
 -- Tests of a list that all pass.
 abbrev pub AllPass : List Test → Type 0

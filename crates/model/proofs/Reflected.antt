@@ -1,6 +1,7 @@
 -- What the mirror of a plan counts, beside what the plan counts.
 use Rattle.std.proofs.Common.{◌≡◌, ℕ, suc, ◌+◌, ◌-◌, ◌<◌, ◌≤◌, Bool, true, false, ◌&&◌, eqb, ltb, leb, ◌⊎◌, List, [], ◌∷◌, map, reverse, length, get_or, refl, ap, ◌∙◌, inl, inr, arith}
 use Rattle.std.proofs.lemmas.Bool.{ne_eqb, cases_lt}
+use Rattle.std.proofs.lemmas.Bool.Decides.{nat_tests}
 use Rattle.model.specs.Timetable.{Exchange, none, Side, Plan, Keeps, KeepsPlainly, home, landed, brought, left, count, bit}
 use Rattle.model.specs.Mirror.{remains, closing, reflected}
 use Rattle.model.proofs.Counting.{count_same, count_none, count_split, same_reversed, count_append}
@@ -9,7 +10,6 @@ use Rattle.model.proofs.Plainly.{plain_reading}
 use Rattle.model.proofs.Places.{Chained, chained}
 use Rattle.model.proofs.Picked.{Rising, rising_from, picked_rises, home_picked, home_picked_past, home_above, sum_below, sum_same, sum_both, sum_none, sum_one, length_rising}
 use Rattle.model.proofs.Steady.{Steady, steady, early_counts, landed_started}
-use Rattle.std.proofs.lemmas.Bool.Decides.{nat_tests}
 
 -- Counting over a list of images.
 count_map : (p : Exchange → Bool) (g : Exchange → Exchange) (xs : List Exchange) → count p (map g xs) ≡ count (λ x. p (g x)) xs

@@ -3,6 +3,7 @@ use Rattle.std.proofs.Common.{◌≡◌, ℕ, ◌+◌, ◌-◌, ◌<◌, ◌≤�
 use Rattle.std.specs.List.{flat_map}
 use Rattle.std.proofs.lemmas.List.{length-append}
 use Rattle.std.proofs.lemmas.Bool.{false≢true, eqb-true, eq-eqb, leb-true, le-leb, ltb-true, lt-ltb}
+use Rattle.std.proofs.lemmas.Bool.Decides.{nat_tests}
 use Rattle.model.specs.Timetable.{Exchange, none, Act, Side, Plan, Absent, MayGoOut, ResidentDuring, served, occupies}
 use Rattle.model.specs.PlanBytes.{Command, Opens, Trades, Serves, Waits, Ends, command_bytes, so_far, plan_bytes, plan_limit}
 use Rattle.model.specs.Verdict
@@ -13,7 +14,6 @@ use Rattle.model.proofs.Marks.{away_absent, absent_away, here_resident, resident
 use Rattle.model.proofs.Progress.{PhaseIs, Tells}
 use Rattle.model.proofs.Turns.{step_stops, over_refuses}
 use Rattle.model.proofs.Accepts.{StoppedAt, EndedAt, reads_bytes, ended_plan, ended_keeps, ended_read, ended_within, filling, resting}
-use Rattle.std.proofs.lemmas.Bool.Decides.{nat_tests}
 
 -- tests and rules side by side, each test passing exactly if its rule holds
 abbrev pub Matches : List Test → List Rule → Type 0

@@ -2,6 +2,7 @@
 use Rattle.std.proofs.Common.{◌≡◌, ℕ, ◌<◌, true, ltb, List, length, get_or, sym, refl, ap, arith}
 use Rattle.std.specs.List.{list_all}
 use Rattle.std.proofs.lemmas.Bool.{ltb-true}
+use Rattle.std.proofs.lemmas.List.Sums.{AllPass-from_list_all}
 use Rattle.model.specs.Timetable.{Forward}
 use Rattle.model.specs.PlanBytes.{plan_bytes}
 use Rattle.model.specs.Verdict.{Accepted, Refused, NotLanded, Outcome, verdict, run, step, after, found, blank_marks, blank_idle, most_disks}
@@ -9,7 +10,6 @@ use Rattle.model.specs.Statements.{Fit}
 use Rattle.model.specs.Worked.{WorkedRows, WorkedEdges, ModelTells, homes6, requests6, early6, late6}
 use Rattle.model.proofs.Exact.{accepts_exactly}
 use Rattle.model.proofs.Once.{keeps_form}
-use Rattle.std.proofs.lemmas.List.Sums.{AllPass-from_list_all}
 use Rattle.model.proofs.Letters.{plan_size}
 
 pub worked_rows : WorkedRows

@@ -2,13 +2,13 @@
 use Rattle.std.proofs.Common.{◌≡◌, ℕ, zero, suc, ◌<◌, ◌≤◌, true, false, not, ◌&&◌, eqb, leb, ◌⊎◌, List, [], ◌∷◌, ◌++◌, length, get_or, drop, sym, refl, ap, ◌∙◌, subst, inl, inr, arith}
 use Rattle.std.proofs.lemmas.List.{get_or_append_left, get_or_push, length_push, get_or-map, length-map}
 use Rattle.std.proofs.lemmas.Bool.{leb-true, le-leb, eqb-true, lt-ltb, cases_eq}
+use Rattle.std.proofs.lemmas.Bool.Decides.{nat_tests}
 use Rattle.model.specs.Timetable.{Side, Forward, Backward, occupies}
 use Rattle.model.specs.Verdict.{Mark, Away, Here, is_away_at, is_here_at, State}
 use Rattle.model.specs.View.{Place, View, is_absent, is_resident, missing, may_go_out, lawful, is_free, disk_of, next_use}
 use Rattle.model.specs.Pass.{each, place_by, named_by, seen}
 use Rattle.model.proofs.Choosing.{lawful_parts, four_all, free_known}
 use Rattle.model.proofs.Answering.{first_at_lem, first_is}
-use Rattle.std.proofs.lemmas.Bool.Decides.{nat_tests}
 
 pub each_length : {X : Type 0} (f : ℕ → X) (n : ℕ) → length (each f n) ≡ n
 unfolding each

@@ -1,15 +1,11 @@
--- How many bytes a plan has; and what follows for the mirror of accepted bytes.
-use Rattle.std.proofs.Common.{◌≡◌, ℕ, ◌+◌, ◌*◌, List, [], ◌∷◌, ◌++◌, map, reverse, length, sym, refl, ap, ◌∙◌, arith}
-use Rattle.std.specs.List.{flat_map}
-use Rattle.std.proofs.lemmas.List.{append_assoc, length_push}
-use Rattle.model.specs.Timetable.{Exchange, opposite, Act, Serve, Wait, waited, Plan}
-use Rattle.model.specs.PlanBytes.{Command, Opens, Trades, Serves, Waits, Ends, command_bytes, act_command, trade_command, starting_at, step_commands, plan_commands, plan_bytes}
+-- How many bytes the mirror of a plan has, and what follows for the mirror of accepted bytes.
+use Rattle.std.proofs.Common.{◌≡◌, ℕ, List, reverse, length, sym, refl, ap, ◌∙◌, arith}
+use Rattle.model.specs.Timetable.{Exchange, opposite, waited, Plan}
+use Rattle.model.specs.PlanBytes.{plan_bytes}
 use Rattle.model.specs.Verdict.{Accepted, Outcome}
 use Rattle.model.specs.Statements.{plan_outcome}
-use Rattle.model.specs.Layout.{PlanSize}
 use Rattle.model.specs.Mirror.{mirrored}
 use Rattle.model.specs.MirrorLaws.{MirrorSize, MirrorWritten, MirrorAccepted}
-use Rattle.model.proofs.Gather.{gather, gather_plan}
 use Rattle.model.proofs.Once.{keeps_form}
 use Rattle.model.proofs.Exact.{accepts_exactly}
 use Rattle.model.proofs.Written.{written_accepted}

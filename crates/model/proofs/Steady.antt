@@ -3,12 +3,12 @@
 use Rattle.std.proofs.Common.{◌≡◌, ℕ, zero, suc, ◌+◌, ◌<◌, ◌≤◌, Bool, true, false, ◌&&◌, eqb, ltb, leb, List, [], ◌∷◌, ◌++◌, length, get_or, take, sym, refl, ap, subst, arith}
 use Rattle.std.proofs.lemmas.List.{take_all, length-take-le, get_or-take}
 use Rattle.std.proofs.lemmas.Bool.{eq-eqb, lt-ltb, le-ltb, and_right, and_from}
+use Rattle.std.proofs.lemmas.Bool.Decides.{nat_tests}
+use Rattle.std.proofs.Math.Seq.{take-suc}
 use Rattle.model.specs.Timetable.{Exchange, none, Side, Plan, Keeps, Lawful, home, landed, brought, left, count, bit}
 use Rattle.model.proofs.Counting.{count_push, count_same, count_le, count_tight}
 use Rattle.model.proofs.Marks.{Started, early_before, in_of, out_of, early_some, early, early_grows}
 use Rattle.model.proofs.Picked.{home_one}
-use Rattle.std.proofs.lemmas.Bool.Decides.{nat_tests}
-use Rattle.std.proofs.Math.Seq.{take-suc}
 
 -- a count of landings up to a boundary grows with the boundary
 landed_rises : (fetch : ℕ) (xs : List Exchange) (b t u : ℕ) → t ≤ u → landed fetch xs b t ≤ landed fetch xs b u

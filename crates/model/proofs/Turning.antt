@@ -9,7 +9,7 @@ use Rattle.model.specs.Rules.{Rule, NeedLaw, Wants}
 use Rattle.model.specs.Pass.{seen, starts, screened, takes_ahead, takes_need, asks_need, asks_ahead, asks_disks, asks_all}
 use Rattle.model.proofs.Choosing.{all_four}
 use Rattle.model.proofs.Seeing.{mark, idle_from, Requested, Takes, use_requested, sees_missing, lawful_takes, takes_lawful}
-use Rattle.model.proofs.Sound.{Sound, later_sound, sound_trades, new_in, new_other, other_idle, away_is, here_is, here_away}
+use Rattle.model.proofs.Sound.{Sound, later_sound, sound_trades, new_in, new_other, other_idle}
 use Rattle.model.proofs.Progress.{on_disks}
 
 module _ (side : Side) (homes : List ℕ) (frames fetch : ℕ) (requests : List ℕ) where

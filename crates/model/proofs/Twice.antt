@@ -1,8 +1,9 @@
 -- The mirror of the mirror of a plan that keeps the model is the plan.
-use Rattle.std.proofs.Common.{◌≡◌, ℕ, suc, ◌+◌, ◌-◌, ◌<◌, ◌≤◌, Bool, true, false, cond, ◌&&◌, eqb, ltb, leb, List, [], ◌∷◌, ◌++◌, map, reverse, length, get_or, sym, refl, ap, ◌∙◌, arith}
+use Rattle.std.proofs.Common.{◌≡◌, ℕ, suc, ◌+◌, ◌-◌, ◌<◌, ◌≤◌, Bool, true, ◌&&◌, eqb, ltb, leb, List, [], ◌∷◌, map, reverse, length, get_or, sym, refl, ap, ◌∙◌, arith}
 use mathlib.Core.List.{reverse-cons}
 use Rattle.std.proofs.lemmas.List.{append-nil, reverse-reverse, length-reverse, ext_get_or}
 use Rattle.std.proofs.lemmas.Bool.{eqb-true, eq-eqb, le-ltb, lt-leb, and_right}
+use Rattle.std.proofs.lemmas.Bool.Decides.{nat_tests}
 use Rattle.model.specs.Timetable.{Exchange, none, Side, Plan, Keeps, landed, left, home, bit}
 use Rattle.model.specs.PlanBytes.{starting_at}
 use Rattle.model.specs.Mirror.{remains, closing, reflected, mirrored}
@@ -12,7 +13,6 @@ use Rattle.model.proofs.Writing.{starting_append}
 use Rattle.model.proofs.Picked.{among, picked_same, rising_picked, home_picked}
 use Rattle.model.proofs.Reflected.{left_reflected, landed_reflected, closes_with, opening_rises}
 use Rattle.model.proofs.Mirroring.{length_reflected, at_reflected}
-use Rattle.std.proofs.lemmas.Bool.Decides.{nat_tests}
 
 -- at the first boundary nothing has landed or gone
 landed_first : (fetch : ℕ) → 0 < fetch → (xs : List Exchange) (b : ℕ) → landed fetch xs b 0 ≡ 0

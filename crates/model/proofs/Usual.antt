@@ -2,13 +2,13 @@
 use Rattle.std.proofs.Common.{◌≡◌, ℕ, zero, suc, ◌+◌, ◌-◌, ◌<◌, ◌≤◌, Bool, true, false, ◌||◌, eqb, ltb, leb, ◌⊎◌, List, [], ◌∷◌, ◌++◌, length, get_or, refl, ap, ◌∙◌, subst, inl, inr, arith}
 use Rattle.std.proofs.lemmas.List.{length-append, get_or_append_left, get_or-append-add}
 use Rattle.std.proofs.lemmas.Bool.{and_parts, and_from, ltb-true, lt-ltb, le-leb, eqb-true, eqb-false, leb-true, leb-false, eq-eqb, cases_lt}
+use Rattle.std.proofs.lemmas.Bool.Decides.{nat_tests}
 use Rattle.model.specs.Timetable.{bit, home}
 use Rattle.model.specs.Pass.{each, add_unless, different, usual_opening, rises, opening_fits}
 use Rattle.model.specs.PassLaws.{Playable, FitOpening, OpeningsTold}
 use Rattle.model.proofs.Picked.{Rising, rising_room, rising_from, rising_each, rising_pairs, picked_rises, sum_below, sum_same, sum_both, sum_none, sum_one, length_picked, home_one}
 use Rattle.model.proofs.Seeing.{each_at, each_length}
 use Rattle.model.proofs.Choosing.{all_four}
-use Rattle.std.proofs.lemmas.Bool.Decides.{nat_tests}
 
 -- as many numbers are in a list of different numbers below n as the list is long
 abbrev Different : ℕ → List ℕ → Type 0

@@ -2,9 +2,9 @@
 use Rattle.std.proofs.Common.{◌≡◌, ℕ, suc, ◌+◌, ◌<◌, ◌≤◌, List, [], ◌∷◌, ◌++◌, map, length, get_or, sym, refl, ap, ◌∙◌, subst, add-zero, zero-add, arith}
 use Rattle.std.proofs.lemmas.List.{append_assoc, append-nil, map-append, length_push}
 use Rattle.std.proofs.lemmas.Bool.{eq-eqb, ne_eqb}
+use Rattle.std.proofs.lemmas.Bool.Decides.{nat_tests}
 use Rattle.model.specs.Timetable.{Exchange, none, Act}
 use Rattle.model.specs.PlanBytes.{Command, Opens, Ends, act_command, trade_command, starting_at, step_commands, plan_commands, so_far}
-use Rattle.std.proofs.lemmas.Bool.Decides.{nat_tests}
 
 pub starting_append : (t : ℕ) (xs ys : List Exchange) → starting_at t (xs ++ ys) ≡ starting_at t xs ++ starting_at t ys
 unfolding starting_at

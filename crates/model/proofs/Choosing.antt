@@ -55,27 +55,18 @@ module _ (p : ℕ → Bool) (key : ℕ → ℕ) where
   top (suc n) b e = go (p n) refl (greatest p key n) refl (λ c f. top n c f) e
     where
       up : Top p key n b → (p n ≡ true → key n ≤ key b) → Top p key (suc n) b
-      up h k = record { below = omega (arith, h.below); passes = h.passes; most = λ c l f. most c l f (cases_eq c n); lowest = h.lowest }
-        where
-          most : (c : ℕ) → c < suc n → p c ≡ true → (c ≡ n) ⊎ (c ≡ n → ⊥) → key c ≤ key b
-          most c l f (inl i) = subst (λ (m : ℕ). key m ≤ key b) (sym i) (k (subst (λ (m : ℕ). p m ≡ true) i f))
-          most c l f (inr i) = h.most c (omega arith) f
+      up h k = record { below = omega (arith, h.below); passes = h.passes; most = λ c l f. let i = h.most c in grind (arith, cases_eq c n); lowest = h.lowest }
 
-      new : (m : ℕ) → p n ≡ true → ((c : ℕ) → c < n → p c ≡ true → key c < key n) → n ≡ b → Top p key (suc n) b
-      new m f k i = subst (λ (x : ℕ). Top p key (suc n) x) i
-          (record { below = omega arith; passes = f; most = λ c l g. most c l g (cases_eq c n); lowest = λ c l g. k c l g })
-        where
-          most : (c : ℕ) → c < suc n → p c ≡ true → (c ≡ n) ⊎ (c ≡ n → ⊥) → key c ≤ key n
-          most c l g (inl i) = subst (λ (m : ℕ). key m ≤ key n) (sym i) (omega arith)
-          most c l g (inr i) = omega (arith, k c (omega arith) g)
+      new : p n ≡ true → ((c : ℕ) → c < n → p c ≡ true → key c < key n) → n ≡ b → Top p key (suc n) b
+      new f k i = subst (λ (x : ℕ). Top p key (suc n) x) i (record { below = omega arith; passes = f; most = λ c l g. let j = k c in grind (arith, cases_eq c n); lowest = k })
 
       go : (x : Bool) → p n ≡ x → (y : Option ℕ) → greatest p key n ≡ y → ((c : ℕ) → y ≡ Some c → Top p key n c) → better_if x key n y ≡ Some b → Top p key (suc n) b
       go false f y g h e = up (h b e) (λ k. absurd (both_ways (p n) f k))
-      go true f None g h e = new 0 f (λ c l k. absurd (both_ways (p c) (greatest_none p key n g c l) k)) (same_Some n b e)
+      go true f None g h e = new f (λ c l k. absurd (both_ways (p c) (greatest_none p key n g c l) k)) (same_Some n b e)
       go true f (Some m) g h e = pick (ltb (key m) (key n)) refl e
         where
           pick : (z : Bool) → ltb (key m) (key n) ≡ z → cond z (Some n) (Some m) ≡ Some b → Top p key (suc n) b
-          pick true i e = new m f (λ c l k. omega (arith, (h m refl).most c l k, ltb-true (key m) (key n) i)) (same_Some n b e)
+          pick true i e = new f (λ c l k. omega (arith, (h m refl).most c l k, ltb-true (key m) (key n) i)) (same_Some n b e)
           pick false i e = up (h b e) (λ k. subst (λ (x : ℕ). key n ≤ key x) (same_Some m b e) (ltb-false (key m) (key n) i))
 
 -- the latest of those that pass a test may go out and passes; and where there is none, none that may go out passes

@@ -1,6 +1,6 @@
 -- The usual opening fills the frames with existing blocks, rising.
 use Rattle.std.proofs.Common.{◌≡◌, ℕ, zero, suc, ◌+◌, ◌-◌, ◌<◌, ◌≤◌, Bool, true, false, ◌||◌, eqb, ltb, leb, ◌⊎◌, List, [], ◌∷◌, ◌++◌, length, get_or, refl, ap, ◌∙◌, subst, inl, inr, arith}
-use Rattle.std.proofs.lemmas.List.{length-append, get_or_append_left, get_or-append-add}
+use Rattle.std.proofs.lemmas.List.{length-append, get_or_append_left, get_or-append-add, get_or-append_right}
 use Rattle.std.proofs.lemmas.Bool.{and_parts, and_from, ltb-true, lt-ltb, le-leb, eqb-true, eqb-false, leb-true, leb-false, eq-eqb, cases_lt}
 use Rattle.std.proofs.lemmas.Bool.Decides.{nat_tests}
 use Rattle.model.specs.Timetable.{bit, home}
@@ -100,8 +100,7 @@ module _ (n k : ℕ) (requests : List ℕ) (enough : k ≤ n) (known : (i : ℕ)
       go (inl m) = omega (arith, get_or_append_left requests (each (λ b. b) n) 0 i m, known i m)
       go (inr m) =
           let j : i - length requests < n = omega (arith, length-append requests (each (λ b. b) n), each_length (λ b. b) n) in
-          let e : length requests + (i - length requests) ≡ i = omega arith in
-          omega (arith, ap (λ (x : ℕ). get_or listed x 0) e, get_or-append-add requests (each (λ b. b) n) (i - length requests) 0, each_at (λ b. b) n (i - length requests) 0 j)
+          omega (arith, get_or-append_right requests (each (λ b. b) n) (length requests) i 0 refl m, each_at (λ b. b) n (i - length requests) 0 j)
 
   found : Found n k listed [] chosen
   found = finds n k listed [] tt (omega arith) listed_below

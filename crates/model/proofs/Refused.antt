@@ -10,7 +10,7 @@ use Rattle.model.specs.Verdict.{Cause, OutOfPlace, OverLimit, State, is_over, fo
 use Rattle.model.specs.Refusals.{FirstBroken, rule, WithinLimit, rules_at, RefusedAt, RefusedAfter}
 use Rattle.model.specs.Statements.{Fit, refused_with, RefusesExactly}
 use Rattle.model.proofs.Turns.{run_stops, stops_step, over_stops}
-use Rattle.model.proofs.Refuses.{broken_first, matches_at, refusals_tell, limit_passes, limit_holds, sub_front}
+use Rattle.model.proofs.Refuses.{broken_first, matches_at, refusals_tell, limit_passes, limit_holds, front_length}
 use Rattle.model.proofs.Arrives.{verdict_arrives, verdict_ends}
 
 -- what a stop says, in the terms of the plan so far
@@ -21,8 +21,7 @@ module _ (side : Side) (homes : List ℕ) (frames fetch : ℕ) (requests : List 
   at_says : (o : List ℕ) (a : List Act) (xs : List Exchange) (rest : List ℕ) → RefusedAt side homes frames fetch requests room bytes cause place o a xs rest → verdict side homes frames fetch requests room bytes ≡ refused_with cause place xs
   at_says o a xs rest r =
       let pre : List ℕ = flat_map command_bytes (so_far o a xs) in
-      let total : length bytes ≡ length pre + length rest = ap (λ (v : List ℕ). length v) r.read ∙ length-append pre rest in
-      let front : length bytes - length rest ≡ length pre = sub_front (length bytes) (length pre) (length rest) total in
+      let front : length bytes - length rest ≡ length pre = front_length bytes pre rest r.read in
       let short : plan_limit < length bytes → length bytes - length rest ≤ plan_limit = λ l. subst (λ (n : ℕ). n ≤ plan_limit) (sym front) (r.within l) in
       let v = verdict_arrives side homes frames fetch requests room fit bytes o a xs rest r.keeps r.read short in
       let m = matches_at side homes frames fetch requests room fit o a xs v.s v.tells_it (length bytes) (length pre) rest v.before_end front (found rest) in
@@ -46,8 +45,7 @@ module _ (side : Side) (homes : List ℕ) (frames fetch : ℕ) (requests : List 
   after_says : (plan : Plan) (rest : List ℕ) → RefusedAfter side homes frames fetch requests room bytes cause place plan rest → verdict side homes frames fetch requests room bytes ≡ refused_with cause place plan.exchanges
   after_says plan rest r =
       let pre : List ℕ = plan_bytes plan in
-      let total : length bytes ≡ length pre + length rest = ap (λ (v : List ℕ). length v) r.read ∙ length-append pre rest in
-      let front : length bytes - length rest ≡ length pre = sub_front (length bytes) (length pre) (length rest) total in
+      let front : length bytes - length rest ≡ length pre = front_length bytes pre rest r.read in
       let short : plan_limit < length bytes → length bytes - length rest ≤ plan_limit = λ l. subst (λ (n : ℕ). n ≤ plan_limit) (sym front) (r.within l) in
       let v = verdict_ends side homes frames fetch requests room fit bytes plan rest r.keeps r.listed r.read short in
       let t : Bool = within_limit (length bytes) (length bytes - length rest) 1 in

@@ -1,5 +1,5 @@
 -- The tests of the verdict are the rules of the subject, so a refusal tells the first rule that is broken.
-use Rattle.std.proofs.Common.{◌≡◌, ℕ, ◌+◌, ◌-◌, ◌<◌, ◌≤◌, Bool, true, false, cond, eqb, ◌⊎◌, List, [], ◌∷◌, length, get_or, drop, sym, refl, ap, ◌∙◌, subst, inl, inr, arith}
+use Rattle.std.proofs.Common.{◌≡◌, ℕ, ◌+◌, ◌-◌, ◌<◌, ◌≤◌, Bool, true, false, cond, eqb, ◌⊎◌, List, [], ◌∷◌, length, get_or, drop, sym, refl, ap, ◌∙◌, subst, inl, inr, arith, ◌++◌}
 use Rattle.std.specs.List.{flat_map}
 use Rattle.std.proofs.lemmas.List.{length-append}
 use Rattle.std.proofs.lemmas.Bool.{false≢true, eqb-true, eq-eqb, leb-true, le-leb, ltb-true, lt-ltb}
@@ -183,8 +183,9 @@ after_broken : (total place : ℕ) (b : Bool) (cause : Cause) → within_limit t
 after_broken total place true cause e f = inr (limit_holds total place 1 e, inl ((λ k. k), f))
 after_broken total place false cause e f = inl ((λ k. false≢true (sym e ∙ limit_passes total place 1 k)), f)
 
-pub sub_front : (total pre rest : ℕ) → total ≡ pre + rest → total - rest ≡ pre
-sub_front total pre rest e = omega arith
+-- where bytes are joined, the rest's length tells the front's
+pub front_length : (bytes pre rest : List ℕ) → bytes ≡ pre ++ rest → length bytes - length rest ≡ length pre
+front_length bytes pre rest e = omega (arith, ap (λ (ys : List ℕ). length ys) e, length-append pre rest)
 
 refused_as : (out : Outcome) (cause : Cause) (place : ℕ) (xs : List Exchange) → out.answer ≡ Refused cause place → out.records ≡ xs → out ≡ refused_with cause place xs
 refused_as out cause place xs e f = λ i. record { answer = e i; records = f i }
@@ -206,8 +207,7 @@ refusals_tell side homes frames fetch requests room bytes fit small cause place 
         let h = e.tells_it in
         let k = e.keeps_it in
         let pre : List ℕ = flat_map command_bytes (so_far e.o e.a e.xs) in
-        let total : length bytes ≡ length pre + length e.rest = ap (λ (ys : List ℕ). length ys) e.read ∙ length-append pre e.rest in
-        let front : length bytes - length e.rest ≡ length pre = sub_front (length bytes) (length pre) (length e.rest) total in
+        let front : length bytes - length e.rest ≡ length pre = front_length bytes pre e.rest e.read in
         let same : Refused e.cause e.place ≡ Refused cause place = sym (ap (λ (u : Outcome). u.answer) e.said) ∙ r in
         let same_cause' : e.cause ≡ cause = cc in
         let same_place : e.place ≡ place = cc in
@@ -231,8 +231,7 @@ refusals_tell side homes frames fetch requests room bytes fit small cause place 
         let plan : Plan = ended_plan side homes frames fetch requests room bytes out e in
         let rest : List ℕ = drop 1 e.rest in
         let s' : State = after side homes frames fetch requests room e.s Ends in
-        let total : length bytes ≡ length (plan_bytes plan) + length rest = ap (λ (ys : List ℕ). length ys) (ended_read side homes frames fetch requests room bytes out e) ∙ length-append (plan_bytes plan) rest in
-        let front : length bytes - length rest ≡ length (plan_bytes plan) = sub_front (length bytes) (length (plan_bytes plan)) (length rest) total in
+        let front : length bytes - length rest ≡ length (plan_bytes plan) = front_length bytes (plan_bytes plan) rest (ended_read side homes frames fetch requests room bytes out e) in
         let v = over_refuses side homes frames fetch requests room (length bytes) e.n s' rest cause place refl e.enough (ap (λ (u : Outcome). u.answer) e.said ∙ r) in
         inr (
           plan,

@@ -58,11 +58,7 @@ module _ (fetch : ℕ) (lasts : 0 < fetch) (o : List ℕ) (xs : List Exchange) (
 pub count_zero : (p : Exchange → Bool) (xs : List Exchange) → count p xs ≡ 0 → (j : ℕ) → j < length xs → p (get_or xs j none) ≡ false
 unfolding count
 count_zero p [] e j l = absurd (omega arith)
-count_zero p (x ∷ xs) e zero l = off (p x) e
-  where
-    off : (y : Bool) → bit y + count p xs ≡ 0 → y ≡ false
-    off true e = absurd (omega arith)
-    off false e = refl
+count_zero p (x ∷ xs) e zero l = grind arith
 count_zero p (x ∷ xs) e (suc j) l = count_zero p xs (omega arith) j (omega arith)
 
 -- An exchange that is under way on a disk at a boundary.

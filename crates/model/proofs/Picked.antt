@@ -5,6 +5,7 @@ use Rattle.std.proofs.lemmas.Bool.{eq-eqb, ne_eqb, cases_eq}
 use Rattle.model.specs.Timetable.{bit, home}
 use Rattle.model.specs.Mirror.{picked}
 use Rattle.model.proofs.Counting.{home_push_same, home_push_other}
+use Rattle.std.proofs.lemmas.Bool.Decides.{nat_tests}
 
 -- a list that rises, from a number on and below another
 abbrev pub Rising : ℕ → ℕ → List ℕ → Type 0
@@ -117,6 +118,9 @@ ends_or_below low n (x ∷ (y ∷ xs)) h r =
 abbrev pub among : List ℕ → ℕ → Bool
 among xs b = eqb (home xs b) 1
 
+pub among_is : (xs : List ℕ) (b : ℕ) → bit (among xs b) ≡ home xs b
+among_is xs b = let h = home_one xs b in grind (arith, nat_tests)
+
 -- a rising list is what is picked by being in it
 pub rising_picked : (n : ℕ) (xs : List ℕ) → Rising 0 n xs → picked (among xs) n ≡ xs
 unfolding picked
@@ -158,18 +162,11 @@ sum_none (suc n) = let e = sum_none n in omega arith
 -- one number below n counts once
 sum_past : (c n : ℕ) → n ≤ c → sum_below (λ b. bit (eqb c b)) n ≡ 0
 sum_past c zero l = refl
-sum_past c (suc n) l =
-    let e = sum_past c n (omega arith) in
-    let k : bit (eqb c n) ≡ 0 = ap bit (ne_eqb c n (λ (i : c ≡ n). omega arith)) in
-    omega arith
+sum_past c (suc n) l = let e = sum_past c n (omega arith) in grind (arith, nat_tests)
 
 pub sum_one : (c n : ℕ) → c < n → sum_below (λ b. bit (eqb c b)) n ≡ 1
 sum_one c zero l = absurd (omega arith)
-sum_one c (suc n) l = go (cases_eq c n) (λ m. sum_one c n m)
-  where
-    go : (c ≡ n) ⊎ (c ≡ n → ⊥) → (c < n → sum_below (λ b. bit (eqb c b)) n ≡ 1) → sum_below (λ b. bit (eqb c b)) n + bit (eqb c n) ≡ 1
-    go (inl i) h = let k : bit (eqb c n) ≡ 1 = ap bit (eq-eqb c n i) in omega (arith, sum_past c n (omega arith))
-    go (inr i) h = let k : bit (eqb c n) ≡ 0 = ap bit (ne_eqb c n i) in omega (arith, h (omega arith))
+sum_one c (suc n) l = let h = λ (m : c < n). sum_one c n m in let p = sum_past c n in grind (arith, nat_tests)
 
 -- as many are picked as pass
 pub length_picked : (p : ℕ → Bool) (n : ℕ) → length (picked p n) ≡ sum_below (λ b. bit (p b)) n
@@ -181,9 +178,4 @@ length_picked p (suc n) = let e = length_picked p n in grind (arith, length_push
 pub length_rising : (n : ℕ) (xs : List ℕ) → Rising 0 n xs → length xs ≡ sum_below (λ b. home xs b) n
 length_rising n xs h =
     let e : length (picked (among xs) n) ≡ length xs = ap (λ (ys : List ℕ). length ys) (rising_picked n xs h) in
-    sym e ∙ (length_picked (among xs) n ∙ sum_same (λ b. bit (among xs b)) (λ b. home xs b) n (λ b l. one_or_none (home xs b) (home_one xs b)))
-  where
-    one_or_none : (k : ℕ) → k ≤ 1 → bit (eqb k 1) ≡ k
-    one_or_none zero l = refl
-    one_or_none (suc zero) l = refl
-    one_or_none (suc (suc k)) l = absurd (omega arith)
+    sym e ∙ (length_picked (among xs) n ∙ sum_same (λ b. bit (among xs b)) (λ b. home xs b) n (λ b l. among_is xs b))

@@ -24,9 +24,6 @@ here_is (Here l) t e = (l, refl, leb-true l t e)
 pub here_away : {X : Type 0} (m : Mark) (l g : ℕ) → m ≡ Here l → m ≡ Away g → X
 here_away m l g e f = absurd (cc)
 
-pub away_same : (m : Mark) (g h : ℕ) → m ≡ Away g → m ≡ Away h → g ≡ h
-away_same m g h e f = cc
-
 pub here_same : (m : Mark) (l k : ℕ) → m ≡ Here l → m ≡ Here k → l ≡ k
 here_same m l k e f = cc
 

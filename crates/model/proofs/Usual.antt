@@ -6,7 +6,7 @@ use Rattle.std.proofs.lemmas.Bool.Decides.{nat_tests}
 use Rattle.model.specs.Timetable.{bit, home}
 use Rattle.model.specs.Pass.{each, add_unless, different, usual_opening, rises, opening_fits}
 use Rattle.model.specs.PassLaws.{Playable, FitOpening, OpeningsTold}
-use Rattle.model.proofs.Picked.{Rising, rising_room, rising_from, rising_each, rising_pairs, picked_rises, sum_below, sum_same, sum_both, sum_none, sum_one, length_picked, home_one}
+use Rattle.model.proofs.Picked.{Rising, rising_room, rising_from, rising_each, rising_pairs, picked_rises, sum_below, sum_same, sum_both, sum_none, sum_one, length_picked, home_one, among_is}
 use Rattle.model.proofs.Seeing.{each_at, each_length}
 use Rattle.model.proofs.Choosing.{all_four}
 
@@ -83,9 +83,6 @@ sum_ones : (f : ℕ → ℕ) (n : ℕ) → ((b : ℕ) → b < n → f b ≡ 1) �
 sum_ones f zero h = refl
 sum_ones f (suc n) h = omega (arith, sum_ones f n (λ b l. h b (omega arith)), h n (omega arith))
 
-one_or_none : (k : ℕ) → k ≤ 1 → bit (eqb k 1) ≡ k
-one_or_none k l = grind (arith, nat_tests)
-
 module _ (n k : ℕ) (requests : List ℕ) (enough : k ≤ n) (known : (i : ℕ) → i < length requests → get_or requests i 0 < n) where
   abbrev listed : List ℕ
   listed = requests ++ each (λ b. b) n
@@ -121,7 +118,7 @@ module _ (n k : ℕ) (requests : List ℕ) (enough : k ≤ n) (known : (i : ℕ)
   unfolding usual_opening
   usual_length =
       length_picked (λ b. eqb (home chosen b) 1) n
-      ∙ (sum_same (λ b. bit (eqb (home chosen b) 1)) (λ b. home chosen b) n (λ b l. one_or_none (home chosen b) (home_one chosen b))
+      ∙ (sum_same (λ b. bit (eqb (home chosen b) 1)) (λ b. home chosen b) n (λ b l. among_is chosen b)
       ∙ (sum_different n chosen found.differ ∙ chosen_length))
 
   pub usual_rises : Rising 0 n (usual_opening n k requests)

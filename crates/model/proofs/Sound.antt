@@ -11,21 +11,7 @@ use Rattle.model.proofs.Marks.{here_resident}
 use Rattle.model.proofs.Progress.{Tells, tells_trades, tells_serves, tells_waits, lawful_from, on_disks}
 use Rattle.model.proofs.Accepts.{Sofar, sofar_trades, sofar_act}
 use Rattle.model.proofs.Seeing.{mark, idle_from, Requested, Takes}
-
--- a mark that passes its test
-pub away_is : (m : Mark) (t : ℕ) → is_away_at m t ≡ true → (g : ℕ) × (m ≡ Away g) × (g ≤ t)
-away_is (Away g) t e = (g, refl, leb-true g t e)
-away_is (Here l) t e = absurd (false≢true e)
-
-pub here_is : (m : Mark) (t : ℕ) → is_here_at m t ≡ true → (l : ℕ) × (m ≡ Here l) × (l ≤ t)
-here_is (Away g) t e = absurd (false≢true e)
-here_is (Here l) t e = (l, refl, leb-true l t e)
-
-pub here_away : {X : Type 0} (m : Mark) (l g : ℕ) → m ≡ Here l → m ≡ Away g → X
-here_away m l g e f = absurd (cc)
-
-pub here_same : (m : Mark) (l k : ℕ) → m ≡ Here l → m ≡ Here k → l ≡ k
-here_same m l k e f = cc
+use Rattle.std.proofs.lemmas.Bool.Decides.{nat_tests}
 
 -- The state s of a pass after an opening o and acts a. The number u is the boundary where nothing has started at it yet,
 -- and one more where something may have.
@@ -72,12 +58,6 @@ module _ (side : Side) (homes : List ℕ) (frames fetch : ℕ) (requests : List 
     abbrev disk : ℕ
     disk = occupies side homes x
 
-    was_away : (g : ℕ) × (mark s p ≡ Away g) × (g ≤ s.boundary)
-    was_away = away_is (mark s p) s.boundary k.away
-
-    was_here : (l : ℕ) × (mark s q ≡ Here l) × (l ≤ s.boundary)
-    was_here = here_is (mark s q) s.boundary k.here
-
     differ : p ≡ q → ⊥
     differ e = let i = k.away in let j = k.here in grind arith
 
@@ -111,8 +91,8 @@ module _ (side : Side) (homes : List ℕ) (frames fetch : ℕ) (requests : List 
 
     pub here_old : (b l : ℕ) → mark s b ≡ Here l → s.boundary < l → mark next b ≡ Here l
     here_old b l e m = new_other b
-        (λ i. here_away (mark s p) l was_away.0 (subst (λ (n : ℕ). mark s n ≡ Here l) i e) was_away.1)
-        (λ i. omega (arith, was_here.2, here_same (mark s q) l was_here.0 (subst (λ (n : ℕ). mark s n ≡ Here l) i e) was_here.1))
+        (λ (i : b ≡ p). let g = k.away in grind arith)
+        (λ (i : b ≡ q). let g = k.here in grind (arith, nat_tests))
         ∙ e
 
     away_new : (b g : ℕ) → mark next b ≡ Away g → (g ≡ s.boundary + 1) ⊎ (mark s b ≡ Away g)
@@ -200,14 +180,4 @@ module _ (side : Side) (homes : List ℕ) (frames fetch : ℕ) (requests : List 
 
       -- a block in flight is not the one served
       still : (b l : ℕ) → mark s b ≡ Here l → s.boundary < l → Requested requests s.position b → Requested requests (s.position + 1) b
-      still b l e m r = record { at = r.at; from = past (cases_eq r.at s.position); within = r.within; is = r.is }
-        where
-          k : (l : ℕ) × (mark s c ≡ Here l) × (l ≤ s.boundary)
-          k = here_is (mark s c) s.boundary can
-
-          past : (r.at ≡ s.position) ⊎ (r.at ≡ s.position → ⊥) → s.position + 1 ≤ r.at
-          past (inl i) =
-              let f : c ≡ b = subst (λ (n : ℕ). get_or requests n 0 ≡ b) i r.is in
-              let g = here_same (mark s b) l k.0 e (subst (λ (n : ℕ). mark s n ≡ Here k.0) f k.1) in
-              absurd (omega (arith, k.2))
-          past (inr i) = omega (arith, r.from)
+      still b l e m r = record { at = r.at; from = let i = r.from in let j = r.is in let k = can in grind (arith, nat_tests, cases_eq r.at s.position); within = r.within; is = r.is }

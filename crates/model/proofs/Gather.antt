@@ -1,5 +1,5 @@
 -- A plan gathered from its commands.
-use Rattle.std.proofs.Common.{◌≡◌, ℕ, zero, suc, ◌+◌, ◌<◌, ◌≤◌, Bool, true, false, cond, eqb, List, [], ◌∷◌, ◌++◌, map, length, get_or, sym, refl, ap, ◌∙◌, subst, add-zero, zero-add, arith}
+use Rattle.std.proofs.Common.{◌≡◌, ℕ, zero, suc, ◌+◌, ◌<◌, ◌≤◌, Bool, true, false, cond, eqb, List, [], ◌∷◌, ◌++◌, map, length, get_or, sym, refl, ap, ◌∙◌, subst, add-zero, zero-add, arith, ◌-◌}
 use Rattle.std.proofs.lemmas.List.{append_assoc, append-nil, length_push}
 use Rattle.std.proofs.lemmas.Bool.{eqb-true, lt-ltb, le-ltb}
 use Rattle.std.proofs.lemmas.Bool.Decides.{nat_tests}
@@ -7,6 +7,7 @@ use Rattle.model.specs.Timetable.{Exchange, none, Act, Serve, Wait, Plan}
 use Rattle.model.specs.PlanBytes.{Command, Opens, Trades, Serves, Waits, Ends, act_command, trade_command, starting_at, step_commands, plan_commands, so_far}
 use Rattle.model.specs.Verdict.{Phase, Filling, Standing, Starting, Over, is_over, in_place}
 use Rattle.model.specs.Follows.{before}
+use Rattle.std.proofs.lemmas.Grind.{get_or_head, get_or_tail}
 
 abbrev pub gather : List ℕ → List Act → List Exchange → List Command → Plan
 gather o a xs [] = record { opening = o; acts = a; exchanges = xs }
@@ -54,13 +55,8 @@ extends (Trades p q ∷ cs) o a xs =
       opens = e.opens;
       acts = e.acts;
       trades = e.trades ∙ append_assoc xs (x ∷ []) e.more_exchanges;
-      later = at_or_after x e.more_exchanges refl e.later;
+      later = λ j l. let k = e.later (j - 1) in grind (arith, get_or_head x e.more_exchanges j none, get_or_tail x e.more_exchanges j none);
     }
-  where
-    at_or_after : (x : Exchange) (ys : List Exchange) → x.start ≡ length a → ((j : ℕ) → j < length ys → length a ≤ (get_or ys j none).start) →
-        (j : ℕ) → j < length (x ∷ ys) → length a ≤ (get_or (x ∷ ys) j none).start
-    at_or_after x ys i h zero l = omega arith
-    at_or_after x ys i h (suc j) l = h j (omega arith)
 extends (Serves ∷ cs) o a xs = extends_act o a xs Serve (gather o (a ++ (Serve ∷ [])) xs cs) (extends cs o (a ++ (Serve ∷ [])) xs)
 extends (Waits ∷ cs) o a xs = extends_act o a xs Wait (gather o (a ++ (Wait ∷ [])) xs cs) (extends cs o (a ++ (Wait ∷ [])) xs)
 extends (Ends ∷ cs) o a xs = extends cs o a xs

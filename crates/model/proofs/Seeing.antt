@@ -18,11 +18,12 @@ each_length f (suc n) = let e = each_length f n in omega (arith, length_push (ea
 pub each_at : {X : Type 0} (f : ℕ → X) (n b : ℕ) (d : X) → b < n → get_or (each f n) b d ≡ f b
 unfolding each
 each_at f zero b d l = absurd (omega arith)
-each_at {X} f (suc n) b d l = go (cases_eq b n) (λ m. each_at f n b d m)
-  where
-    go : (b ≡ n) ⊎ (b ≡ n → ⊥) → (b < n → get_or (each f n) b d ≡ f b) → get_or (each f n ++ (f n ∷ [])) b d ≡ f b
-    go (inl e) h = get_or_push (each f n) (f n) d b (each_length f n ∙ sym e) ∙ ap f (sym e)
-    go (inr e) h = get_or_append_left (each f n) (f n ∷ []) d b (omega (arith, each_length f n)) ∙ h (omega arith)
+each_at f (suc n) b d l =
+    let h = λ (m : b < n). each_at f n b d m in
+    let e = each_length f n in
+    let last = get_or_push (each f n) (f n) d b in
+    let front = get_or_append_left (each f n) (f n ∷ []) d b in
+    grind (arith, cases_eq b n)
 
 -- the mark of a block, and from when a disk is idle
 abbrev pub mark : State → ℕ → Mark

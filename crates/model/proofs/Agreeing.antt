@@ -1,8 +1,8 @@
 -- What a rule sees of a state of the pass is what it sees of the plan so far, told by counting.
-use Rattle.std.proofs.Common.{◌≡◌, ℕ, zero, suc, ◌+◌, ◌-◌, ◌<◌, ◌≤◌, Bool, true, false, ◌&&◌, eqb, ltb, leb, List, [], ◌∷◌, map, length, get_or, sym, refl, ap, ◌∙◌, arith}
+use Rattle.std.proofs.Common.{◌≡◌, ℕ, zero, suc, ◌+◌, ◌-◌, ◌<◌, ◌≤◌, Bool, false, ◌&&◌, eqb, ltb, leb, List, [], ◌∷◌, map, length, get_or, sym, refl, ap, ◌∙◌, arith}
 use Rattle.std.proofs.lemmas.List.{get_or-map, length-map, ext_get_or}
 use Rattle.std.proofs.lemmas.Bool.Decides.{nat_tests}
-use Rattle.model.specs.Timetable.{Exchange, none, Act, Side, occupies, bit, count}
+use Rattle.model.specs.Timetable.{Exchange, none, Act, Side, occupies, count}
 use Rattle.model.specs.Verdict.{Mark, Away, Here, State, most_disks}
 use Rattle.model.specs.Pass.{each, place_by, named_by, seen}
 use Rattle.model.specs.Follows.{place_at, named_at, free_at, view_at}

@@ -3,11 +3,11 @@ use Rattle.std.proofs.Common.{◌≡◌, ℕ, zero, suc, ◌+◌, ◌<◌, ◌�
 use Rattle.std.proofs.lemmas.List.{append_assoc, append-nil, length_push}
 use Rattle.std.proofs.lemmas.Bool.{eqb-true, lt-ltb, le-ltb}
 use Rattle.std.proofs.lemmas.Bool.Decides.{nat_tests}
+use Rattle.std.proofs.lemmas.Grind.{get_or_head, get_or_tail}
 use Rattle.model.specs.Timetable.{Exchange, none, Act, Serve, Wait, Plan}
 use Rattle.model.specs.PlanBytes.{Command, Opens, Trades, Serves, Waits, Ends, act_command, trade_command, starting_at, step_commands, plan_commands, so_far}
 use Rattle.model.specs.Verdict.{Phase, Filling, Standing, Starting, Over, is_over, in_place}
 use Rattle.model.specs.Follows.{before}
-use Rattle.std.proofs.lemmas.Grind.{get_or_head, get_or_tail}
 
 abbrev pub gather : List ℕ → List Act → List Exchange → List Command → Plan
 gather o a xs [] = record { opening = o; acts = a; exchanges = xs }

@@ -1,11 +1,11 @@
 -- The numbers that pass a test, as a rising list; and sums over all numbers below one.
 use Rattle.std.proofs.Common.{◌≡◌, ℕ, zero, suc, ◌+◌, ◌<◌, ◌≤◌, Bool, true, false, cond, eqb, ◌⊎◌, List, [], ◌∷◌, ◌++◌, length, get_or, sym, refl, ap, ◌∙◌, subst, inl, inr, arith}
 use Rattle.std.proofs.lemmas.List.{append-nil, length_push}
-use Rattle.std.proofs.lemmas.Bool.{eq-eqb, ne_eqb, cases_eq}
+use Rattle.std.proofs.lemmas.Bool.{ne_eqb, cases_eq}
+use Rattle.std.proofs.lemmas.Bool.Decides.{nat_tests}
 use Rattle.model.specs.Timetable.{bit, home}
 use Rattle.model.specs.Mirror.{picked}
 use Rattle.model.proofs.Counting.{home_push_same, home_push_other}
-use Rattle.std.proofs.lemmas.Bool.Decides.{nat_tests}
 
 -- a list that rises, from a number on and below another
 abbrev pub Rising : ℕ → ℕ → List ℕ → Type 0

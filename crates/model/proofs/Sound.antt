@@ -1,17 +1,17 @@
 -- What holds of a pass at every moment, and how a start and a step keep it.
-use Rattle.std.proofs.Common.{◌≡◌, ℕ, ◌+◌, ◌<◌, ◌≤◌, true, ◌⊎◌, List, [], ◌∷◌, ◌++◌, length, get_or, set, sym, refl, ◌∙◌, subst, inl, inr, arith}
+use Rattle.std.proofs.Common.{◌≡◌, ℕ, ◌+◌, ◌<◌, ◌≤◌, true, ◌⊎◌, List, [], ◌∷◌, ◌++◌, length, get_or, set, sym, ◌∙◌, subst, inl, inr, arith}
 use Rattle.std.proofs.lemmas.List.{get_or-set_same, get_or-set_other, length-set}
-use Rattle.std.proofs.lemmas.Bool.{false≢true, leb-true, cases_eq}
+use Rattle.std.proofs.lemmas.Bool.{cases_eq}
+use Rattle.std.proofs.lemmas.Bool.Decides.{nat_tests}
 use Rattle.model.specs.Timetable.{Exchange, Act, Serve, Wait, Side, occupies, ResidentDuring, served}
 use Rattle.model.specs.PlanBytes.{Serves, Waits}
-use Rattle.model.specs.Verdict.{Mark, Away, Here, is_away_at, is_here_at, State, after, most_disks}
+use Rattle.model.specs.Verdict.{Away, Here, is_here_at, State, after, most_disks}
 use Rattle.model.specs.Statements.{Fit}
 use Rattle.model.specs.Pass.{starts}
 use Rattle.model.proofs.Marks.{here_resident}
 use Rattle.model.proofs.Progress.{Tells, tells_trades, tells_serves, tells_waits, lawful_from, on_disks}
 use Rattle.model.proofs.Accepts.{Sofar, sofar_trades, sofar_act}
 use Rattle.model.proofs.Seeing.{mark, idle_from, Requested, Takes}
-use Rattle.std.proofs.lemmas.Bool.Decides.{nat_tests}
 
 -- The state s of a pass after an opening o and acts a. The number u is the boundary where nothing has started at it yet,
 -- and one more where something may have.

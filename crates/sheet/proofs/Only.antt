@@ -11,7 +11,7 @@ use Rattle.sheet.specs.declared.stage.Stage.TheVariants.{Name, Geometry, Blocks,
 use Rattle.sheet.specs.Commands.{Said, front_of}
 use Rattle.sheet.specs.Reading.{SoFar, takes, rack_said, sheet_said, named, geared, housed, asked, ended, within_limits, Took, kept, refused, took, Turn, proceeds, stops, fault, after_taking, after_parsing, turn, is_nothing, complete, nothing_yet, Verdict, fit, unfit, Outcome, onward, run, reading}
 use Rattle.sheet.proofs.Fronts.{by_N, by_G, by_D, by_R, by_E}
-use Rattle.sheet.specs.declared.fault.SheetFault.{SheetFault}
+use Rattle.sheet.specs.Numbers.{SheetFault}
 use Rattle.sheet.specs.Exact.{bytes_said, Reached, start, more, RefusedAt}
 
 -- numbers that are bytes

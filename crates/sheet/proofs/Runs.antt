@@ -1,7 +1,7 @@
 -- Runs: one command at a time, and commands enough. Assumes nothing.
 use Rattle.std.proofs.Common.{◌≡◌, ℕ, zero, suc, ◌<◌, ◌≤◌, Bool, true, false, cond, List, length, Ok, Err, Result, sym, refl, ◌∙◌, arith}
 use Rattle.model.specs.Sheet.{Sheet}
-use Rattle.sheet.specs.declared.fault.SheetFault.{SheetFault}
+use Rattle.sheet.specs.Numbers.{SheetFault}
 use Rattle.sheet.specs.declared.draft.Draft.{Draft}
 use Rattle.sheet.specs.declared.header.Header.{Header}
 use Rattle.sheet.specs.Drafts.{so_far}

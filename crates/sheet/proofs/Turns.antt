@@ -2,7 +2,7 @@
 use Rattle.std.proofs.Common.{◌≡◌, ℕ, ◌-◌, ◌<◌, true, false, List, length, get_or, Some, None, Ok, Err, sym, refl, ap, arith}
 use Rattle.std.proofs.lemmas.Bool.{eq-eqb, ne_eqb}
 use Rattle.sheet.specs.declared.fault.SheetCause.TheVariants.{RanOut, OutOfPlace}
-use Rattle.sheet.specs.declared.fault.SheetFault.{SheetFault}
+use Rattle.sheet.specs.Numbers.{SheetFault}
 use Rattle.sheet.specs.Commands.{Said, front_of}
 use Rattle.sheet.specs.Drafts.{placed_answer, left}
 use Rattle.sheet.specs.Reading.{SoFar, Took, kept, refused, takes, took, stops, fault, after_taking, turn, turn_answer, turn_left}

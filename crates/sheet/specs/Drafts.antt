@@ -3,7 +3,7 @@ use Rattle.std.specs.Prelude.{ℕ, List, take, Ok, Err, Result}
 use Rattle.std.specs.Borrow.{Bor}
 use Rattle.sheet.specs.declared.draft.Draft.{Draft}
 use Rattle.sheet.specs.declared.fault.SheetCause.{SheetCause}
-use Rattle.sheet.specs.declared.fault.SheetFault.{SheetFault}
+use Rattle.sheet.specs.Numbers.{SheetFault}
 use Rattle.sheet.specs.Reading.{SoFar, Took, kept, refused, fault}
 
 -- a draft, with the length and the slots of the caller's list

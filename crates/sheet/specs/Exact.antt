@@ -3,7 +3,7 @@ use Rattle.std.specs.Prelude.{◌≡◌, ℕ, ◌≤◌, false, List, [], ◌++�
 use Rattle.std.specs.List.{flat_map}
 use Rattle.records.specs.Records.{written_over}
 use Rattle.model.specs.Sheet.{Sheet, Fits, sheet_bytes, name_bytes, rack_bytes, request_bytes}
-use Rattle.sheet.specs.declared.fault.SheetFault.{SheetFault}
+use Rattle.sheet.specs.Numbers.{SheetFault}
 use Rattle.sheet.specs.declared.stage.Stage.{Stage}
 use Rattle.sheet.specs.declared.stage.Stage.TheVariants.{Name, Geometry, Blocks, Requests, Nothing}
 use Rattle.sheet.specs.Reading.{SoFar, nothing_yet, sheet_said, complete, proceeds, stops, turn, fit, unfit, reading}

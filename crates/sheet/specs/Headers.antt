@@ -1,7 +1,7 @@
 -- What a rack, a header with the caller's slots, and an answer of reading mean. Assumes nothing.
 use Rattle.std.specs.Prelude.{ℕ, List, take, Ok, Err, Result}
 use Rattle.model.specs.Sheet as subject
-use Rattle.sheet.specs.declared.fault.SheetFault.{SheetFault}
+use Rattle.sheet.specs.Numbers.{SheetFault}
 use Rattle.sheet.specs.declared.header.Header.{Header}
 use Rattle.sheet.specs.declared.rack.Rack.{Rack}
 use Rattle.sheet.specs.Reading.{Outcome, fit, unfit}

@@ -1,7 +1,7 @@
 -- What a reading of a sheet, and a sheet that it lends, mean. Assumes nothing.
 use Rattle.std.specs.Prelude.{[], ◌∷◌, replicate, Some, None, Ok, Err, Option, Result}
 use Rattle.model.specs.Sheet as subject
-use Rattle.sheet.specs.declared.fault.SheetFault.{SheetFault}
+use Rattle.sheet.specs.Numbers.{SheetFault}
 use Rattle.sheet.specs.declared.result.SheetReading.{SheetReading}
 use Rattle.sheet.specs.declared.view.Sheet.{Sheet}
 use Rattle.sheet.specs.Headers.{rack_of, sheet_of}

@@ -1,11 +1,10 @@
-ghost use Rattle.std.specs.Prelude.{◌≡◌, Some};
-ghost use Rattle.refusal.specs.Line.{line};
+ghost use Rattle.std.specs.Prelude.{◌≡◌};
+ghost use Rattle.refusal.specs.declared.refusal.Layer.TheVariants.{Sheet};
 ghost use Rattle.sheet.specs.declared.fault.SheetCause.TheVariants.{NoSlotLeft};
-ghost use Rattle.sheet.specs.Numbers.{number_of, refusal_of};
+ghost use Rattle.sheet.specs.Numbers.{number_of};
 
 use records::ListFull;
-use refusal::{Layer, Refusal};
-use std::fmt;
+use refusal::{Cause, Layer, Refused};
 
 // Why a sheet is refused.
 #[derive(Clone, Copy, Debug, PartialEq, Eq)]
@@ -27,17 +26,18 @@ pub enum SheetCause {
 }
 
 // A refused sheet: why, and at which byte of it.
-#[derive(Clone, Copy, Debug, PartialEq, Eq)]
-pub struct SheetFault {
-    pub cause: SheetCause,
-    pub place: usize,
-}
+pub type SheetFault = Refused<SheetCause>;
 
-impl SheetCause {
-    // The number by which the cause is told.
-    pub fn number(&self) -> u8
-        ensures { result ≡ number_of self.now }
-    {
+impl Cause for SheetCause {
+    ghost told_by = { Sheet };
+
+    ghost told_as = { number_of };
+
+    fn layer() -> Layer {
+        Layer::Sheet
+    }
+
+    fn number(&self) -> u8 {
         match self {
             SheetCause::RanOut => 1,
             SheetCause::OutOfPlace => 2,
@@ -50,33 +50,10 @@ impl SheetCause {
     }
 }
 
-impl SheetFault {
-    // The refusal as a caller is told it.
-    pub fn refusal(&self) -> Refusal
-        ensures { result ≡ refusal_of self.now }
-    {
-        let cause = self.cause;
-        Refusal {
-            number: cause.number(),
-            layer: Layer::Sheet,
-            place: self.place,
-        }
-    }
-}
-
 impl From<ListFull> for SheetCause {
     ghost from_gives = { λ _ r. r ≡ NoSlotLeft };
 
     fn from(_full: ListFull) -> SheetCause {
         Self::NoSlotLeft
-    }
-}
-
-impl fmt::Display for SheetFault {
-    ghost output = { λ f. Some (line (refusal_of f)) };
-
-    fn fmt<W: fmt::Write>(&self, f: &mut fmt::Formatter<W>) -> fmt::Result {
-        let refusal = self.refusal();
-        write!(f, "{refusal}")
     }
 }

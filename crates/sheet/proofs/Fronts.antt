@@ -1,16 +1,12 @@
 -- The command at the front of some bytes, by its letter. Assumes nothing.
-use Rattle.std.proofs.Common.{◌≡◌, ℕ, suc, ◌+◌, ◌-◌, ◌*◌, ◌<◌, ◌≤◌, cond, eqb, leb, List, length, get_or, take, drop, Some, None, Option, subst, arith, length-drop, length-take}
-use Rattle.std.proofs.lemmas.List.{take_rest, get_or_past}
-use Rattle.std.proofs.lemmas.Bool.{cond_both, le-leb, leb-true, ne_eqb}
+use Rattle.std.proofs.Common.{◌≡◌, ℕ, suc, ◌<◌, ◌≤◌, cond, eqb, leb, List, length, get_or, drop, Some, None, Option, sym, subst, arith, length-drop, length-take}
+use Rattle.std.proofs.lemmas.List.{get_or_past}
+use Rattle.std.proofs.lemmas.Bool.{cond_both, leb-true, ne_eqb}
 use Rattle.model.specs.Sheet.{letter_n, letter_g, letter_d, letter_r, letter_e}
-use Rattle.sheet.specs.Commands.{Said, WholeName, request, front_of, name_front, geometry_front, disk_front, request_front, end_front}
-
--- the rest of a pattern that takes n bytes off the front
-pub whole : (n : ℕ) (bytes : List ℕ) (s : Said) → n ≤ length bytes → ◌≡◌ {A = Option (Said × List ℕ)} (Some (s, take (length bytes - n) (drop n bytes))) (cond (leb n (length bytes)) (Some (s, drop n bytes)) None)
-whole n bytes s l = rw (take_rest bytes n, le-leb n (length bytes) l)
-
-pub whole_request : (bytes : List ℕ) (b : ℕ) → b ≡ get_or bytes 1 0 + 256 * get_or bytes 2 0 → 3 ≤ length bytes → ◌≡◌ {A = Option (Said × List ℕ)} (Some (request b, take (length bytes - 3) (drop 3 bytes))) (request_front bytes)
-whole_request bytes b e l = rw e (whole 3 bytes _ l)
+use Rattle.sheet.specs.declared.letter.Letter.{Letter}
+use Rattle.sheet.specs.declared.letter.Letter.TheVariants as letter
+use Rattle.sheet.specs.Letters.{byte_of}
+use Rattle.sheet.specs.Commands.{Said, WholeName, front_of, front_by, name_front, geometry_front, disk_front, request_front, end_front}
 
 module _ (bytes : List ℕ) where
   pub by_N : get_or bytes 0 0 ≡ 78 → front_of bytes ≡ name_front bytes
@@ -44,6 +40,14 @@ module _ (bytes : List ℕ) where
   by_other n g d r e =
       rw (ne_eqb _ 78 n, ne_eqb _ 71 g, ne_eqb _ 68 d, ne_eqb _ 82 r, ne_eqb _ 69 e)
 
+-- the command at the front is that of the letter there
+pub front_is : (bytes : List ℕ) (l : Letter) → byte_of l ≡ get_or bytes 0 0 → front_of bytes ≡ front_by l bytes
+front_is bytes letter.Name e = by_N bytes (sym e)
+front_is bytes letter.Geometry e = by_G bytes (sym e)
+front_is bytes letter.Disk e = by_D bytes (sym e)
+front_is bytes letter.Request e = by_R bytes (sym e)
+front_is bytes letter.End e = by_E bytes (sym e)
+
 -- What a parse of some bytes has: a whole name, and fewer bytes left.
 abbrev Sound : List ℕ → Option (Said × List ℕ) → Type 0
 Sound bytes None = Unit {0}
@@ -58,14 +62,14 @@ fewer bytes n l = simp length-drop (omega arith)
 sound : (bytes : List ℕ) → Sound bytes (front_of bytes)
 unfolding front_of
 sound bytes =
-    letter letter_n _ _ (part bytes 17 _ (λ l. (simp (length-take, length-drop) (omega arith), simp length-drop (omega arith))))
-    (letter letter_g _ _ (part bytes 4 _ (λ l. (tt, fewer bytes 3 l)))
-    (letter letter_d _ _ (part bytes 2 _ (λ l. (tt, fewer bytes 1 l)))
-    (letter letter_r _ _ (part bytes 3 _ (λ l. (tt, fewer bytes 2 l)))
-    (letter letter_e _ _ (part bytes 1 _ (λ l. (tt, fewer bytes 0 l))) tt))))
+    at letter_n _ _ (part bytes 17 _ (λ l. (simp (length-take, length-drop) (omega arith), simp length-drop (omega arith))))
+    (at letter_g _ _ (part bytes 4 _ (λ l. (tt, fewer bytes 3 l)))
+    (at letter_d _ _ (part bytes 2 _ (λ l. (tt, fewer bytes 1 l)))
+    (at letter_r _ _ (part bytes 3 _ (λ l. (tt, fewer bytes 2 l)))
+    (at letter_e _ _ (part bytes 1 _ (λ l. (tt, fewer bytes 0 l))) tt))))
   where
-    letter : (k : ℕ) (x y : Option (Said × List ℕ)) → Sound bytes x → Sound bytes y → Sound bytes (cond (eqb (get_or bytes 0 0) k) x y)
-    letter k x y hx hy = cond_both (eqb (get_or bytes 0 0) k) x y (Sound bytes) (λ e. hx) (λ e. hy)
+    at : (k : ℕ) (x y : Option (Said × List ℕ)) → Sound bytes x → Sound bytes y → Sound bytes (cond (eqb (get_or bytes 0 0) k) x y)
+    at k x y hx hy = cond_both (eqb (get_or bytes 0 0) k) x y (Sound bytes) (λ e. hx) (λ e. hy)
 
 module _ (bytes : List ℕ) (s : Said) (rest : List ℕ) (e : front_of bytes ≡ Some (s, rest)) where
   pub whole_name : WholeName s

@@ -1,11 +1,12 @@
 -- The sheet of a reading is within the limits, whether it was read or is blank. Assumes nothing.
-use Rattle.std.proofs.Common.{◌≡◌, ℕ, zero, suc, ◌-◌, ◌<◌, ◌≤◌, List, length, get_or, take, replicate, Ok, Err, Result, refl, subst, ⊎_elim, arith, length-take}
+use Rattle.std.proofs.Common.{◌≡◌, ℕ, zero, suc, ◌-◌, ◌<◌, ◌≤◌, List, length, get_or, take, replicate, Ok, Err, Result, IfOk, refl, sym, subst, ⊎_elim, arith, length-take}
 use Rattle.std.proofs.lemmas.List.{get_or-replicate, get_or_past, get_or-take, length-take-le}
 use Rattle.std.proofs.lemmas.Bool.{cases_lt}
 use Rattle.model.specs.Sheet.{Fits}
 use Rattle.sheet.specs.Numbers.{SheetFault}
 use Rattle.sheet.specs.declared.header.Header.{Header}
 use Rattle.sheet.specs.Headers.{sheet_of, outcome_of}
+use Rattle.sheet.specs.Homes.{homes_of}
 use Rattle.sheet.specs.Reading.{Verdict, fit, unfit, reading}
 use Rattle.sheet.specs.Sheets.{blank_sheet, sheet_after}
 use Rattle.sheet.proofs.Only.{Bytes, Told, told}
@@ -36,16 +37,17 @@ after_fits bytes slots small = by_verdict (reading bytes slots).verdict (reading
     by_verdict (unfit f) after h = blank_fits
 
 -- every request is of a block of the rack
-pub known_in : (h : Header) (slots : List ℕ) → Fits (sheet_of h slots) → h.requests ≤ length slots → (i : ℕ) → i < h.requests → get_or slots i 0 < h.rack.blocks
+pub known_in : (h : Header) (slots : List ℕ) → Fits (sheet_of h slots) → h.requests ≤ length slots → (i : ℕ) → i < h.requests → get_or slots i 0 < length (homes_of h.rack.homes)
 known_in h slots fits enough i l =
     let long = length-take-le h.requests slots enough in
-    let few = length-take h.rack.blocks h.rack.homes in
-    let there = subst (λ (n : ℕ). n < length (take h.rack.blocks h.rack.homes)) (get_or-take h.requests slots i 0 l) (fits.known i (omega arith)) in
-    omega arith
+    subst (λ (n : ℕ). n < length (homes_of h.rack.homes)) (get_or-take h.requests slots i 0 l) (fits.known i (omega arith))
 
-pub same_slots : (r : Result Header SheetFault) (slots : List ℕ) → (outcome_of r slots).slots ≡ slots
-same_slots (Ok h) slots = refl
-same_slots (Err f) slots = refl
+-- where a header was read, every request is of a block of its rack
+pub known_read : (r : Result Header SheetFault) (bytes old slots : List ℕ) → Bytes bytes → outcome_of r slots ≡ reading bytes old → IfOk r (λ h. h.requests ≤ length slots) → IfOk r (λ h. (i : ℕ) → i < h.requests → get_or slots i 0 < length (homes_of h.rack.homes))
+known_read (Ok h) bytes old slots small e enough =
+    let fits : Fits (sheet_of h slots) = subst (λ o. Fits (sheet_after o.verdict)) (sym e) (after_fits bytes old small) in
+    known_in h slots fits enough
+known_read (Err f) bytes old slots small e enough = tt
 
 -- The first n slots, as a part of the slice has them.
 

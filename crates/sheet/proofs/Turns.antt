@@ -1,10 +1,18 @@
 -- One command, by how it is judged. Assumes nothing.
-use Rattle.std.proofs.Common.{◌≡◌, ℕ, ◌-◌, ◌<◌, true, false, List, length, get_or, Some, None, Ok, Err, sym, refl, ap, arith}
+use Rattle.std.proofs.Common.{◌≡◌, ℕ, ◌-◌, ◌<◌, true, false, List, length, get_or, Some, None, Option, Ok, Err, Result, sym, refl, ap, ◌∙◌, arith}
+use Rattle.std.specs.Option.{ok_or}
 use Rattle.std.proofs.lemmas.Bool.{eq-eqb, ne_eqb}
 use Rattle.sheet.specs.declared.fault.SheetCause.TheVariants.{RanOut, OutOfPlace}
 use Rattle.sheet.specs.Numbers.{SheetFault}
-use Rattle.sheet.specs.Commands.{Said, front_of}
-use Rattle.sheet.specs.Drafts.{placed_answer, left}
+use Rattle.commands.specs.declared.reader.Reader.{Reader}
+use Rattle.sheet.specs.declared.command.Command.{Command}
+use Rattle.sheet.specs.declared.letter.Letter.{Letter}
+use Rattle.sheet.specs.declared.stage.Stage.{Stage}
+use Rattle.sheet.specs.declared.fault.SheetCause.{SheetCause}
+use Rattle.sheet.specs.Letters.{byte_of}
+use Rattle.sheet.specs.Commands.{Said, said, parsed, front_of, front_by}
+use Rattle.sheet.specs.Drafts.{placed_answer, left, goes_on}
+use Rattle.sheet.proofs.Fronts.{front_is}
 use Rattle.sheet.specs.Reading.{SoFar, Took, kept, refused, takes, took, stops, fault, after_taking, turn, turn_answer, turn_left}
 
 module _ (total : ℕ) (rest : List ℕ) (s : SoFar) where
@@ -23,6 +31,17 @@ module _ (total : ℕ) (rest : List ℕ) (s : SoFar) where
   pub turn_taken : 0 < length rest → takes s.stage (get_or rest 0 0) ≡ true → (x : Said) (after : List ℕ) → front_of rest ≡ Some (x, after) → turn total rest s ≡ after_taking (total - length rest) after (took x s)
   unfolding turn
   turn_taken l e x after f = rw (ne_eqb (length rest) 0 (λ z. omega arith), e, f)
+
+  -- the same at a stage, by the letter
+  pub turn_misplaced : (g : Stage) (c : SheetCause) → 0 < length rest → s.stage ≡ g → takes g (get_or rest 0 0) ≡ false → c ≡ OutOfPlace → turn total rest s ≡ stops (fault c (total - length rest))
+  turn_misplaced g c l e f h = rw h (turn_place l (rw e f))
+
+  turn_front : (g : Stage) (l : Letter) (o : Option (Command × Reader)) → 0 < length rest → s.stage ≡ g → takes g (get_or rest 0 0) ≡ true → byte_of l ≡ get_or rest 0 0 → parsed o ≡ front_by l rest → turn total rest s ≡ goes_on (total - length rest) s (ok_or o (fault RanOut total))
+  turn_front g l None some e f b h = turn_broken some (rw e f) (front_is rest l b ∙ sym h)
+  turn_front g l (Some p) some e f b h = turn_taken some (rw e f) (said p.0) p.1.rest.now (front_is rest l b ∙ sym h)
+
+  pub turn_on : (r : Result (Command × Reader) SheetFault) (g : Stage) (l : Letter) (o : Option (Command × Reader)) → r ≡ ok_or o (fault RanOut total) → parsed o ≡ front_by l rest → byte_of l ≡ get_or rest 0 0 → 0 < length rest → s.stage ≡ g → takes g (get_or rest 0 0) ≡ true → turn total rest s ≡ goes_on (total - length rest) s r
+  turn_on r g l o is h b some e f = rw is (turn_front g l o some e f b h)
 
 module _ (place : ℕ) (after : List ℕ) where
   pub granted : (t : Took) → placed_answer place t ≡ Ok tt → Ok after ≡ turn_answer (after_taking place after t)

@@ -1,7 +1,9 @@
 -- The command at the front of some bytes. Assumes nothing.
 use Rattle.std.specs.Prelude.{◌≡◌, ℕ, ◌+◌, ◌*◌, cond, List, length, take, drop, Some, None, Option, ◌==◌, nat_le, slice_index, slice_index_or}
-use Rattle.std.specs.Borrow.{Bor}
 use Rattle.model.specs.Sheet.{letter_n, letter_g, letter_d, letter_r, letter_e}
+use Rattle.commands.specs.declared.reader.Reader.{Reader}
+use Rattle.sheet.specs.declared.letter.Letter.{Letter}
+use Rattle.sheet.specs.declared.letter.Letter.TheVariants as letter
 use Rattle.sheet.specs.declared.command.Command.{Command}
 use Rattle.sheet.specs.declared.command.Command.TheVariants.{Name, Geometry, Disk, Request, End}
 
@@ -30,9 +32,9 @@ WholeName (request b) = Unit {0}
 WholeName end = Unit {0}
 
 -- a command and the bytes after it
-abbrev pub parsed : Option (Command × Bor (List ℕ)) → Option (Said × List ℕ)
+abbrev pub parsed : Option (Command × Reader) → Option (Said × List ℕ)
 parsed None = None
-parsed (Some p) = Some (said p.0, p.1.now)
+parsed (Some p) = Some (said p.0, p.1.rest.now)
 
 abbrev pub name_front : List ℕ → Option (Said × List ℕ)
 name_front bytes = cond (nat_le 17 (length bytes)) (Some (name (take 16 (drop 1 bytes)), drop 16 (drop 1 bytes))) None
@@ -59,3 +61,11 @@ front_of bytes =
     (cond (c == letter_d) (disk_front bytes)
     (cond (c == letter_r) (request_front bytes)
     (cond (c == letter_e) (end_front bytes) None))))
+
+-- the command of a letter
+abbrev pub front_by : Letter → List ℕ → Option (Said × List ℕ)
+front_by letter.Name bytes = name_front bytes
+front_by letter.Geometry bytes = geometry_front bytes
+front_by letter.Disk bytes = disk_front bytes
+front_by letter.Request bytes = request_front bytes
+front_by letter.End bytes = end_front bytes

@@ -1,20 +1,23 @@
 -- What a draft and the caller's list say together, and what a command's answer is. Assumes nothing.
-use Rattle.std.specs.Prelude.{ℕ, List, take, Ok, Err, Result}
-use Rattle.std.specs.Borrow.{Bor}
+use Rattle.std.specs.Prelude.{ℕ, List, Ok, Err, Result}
+use Rattle.commands.specs.declared.reader.Reader.{Reader}
+use Rattle.sheet.specs.declared.command.Command.{Command}
+use Rattle.sheet.specs.Commands.{said}
+use Rattle.sheet.specs.Homes.{homes_of}
 use Rattle.sheet.specs.declared.draft.Draft.{Draft}
 use Rattle.sheet.specs.declared.fault.SheetCause.{SheetCause}
 use Rattle.sheet.specs.Numbers.{SheetFault}
-use Rattle.sheet.specs.Reading.{SoFar, Took, kept, refused, fault}
+use Rattle.sheet.specs.Reading.{SoFar, Took, kept, refused, took, fault, Turn, stops, after_taking}
 
 -- a draft, with the length and the slots of the caller's list
 abbrev pub so_far : Draft → ℕ → List ℕ → SoFar
 so_far d count slots = record {
   stage = d.stage;
   name = d.name;
-  disks = d.disks;
-  frames = d.frames;
-  fetch = d.fetch;
-  homes = take d.blocks d.homes;
+  disks = d.geometry.disks;
+  frames = d.geometry.frames;
+  fetch = d.geometry.fetch;
+  homes = homes_of d.homes;
   slots = slots;
   count = count;
 }
@@ -28,12 +31,17 @@ abbrev pub placed_answer : ℕ → Took → Result (Unit {0}) SheetFault
 placed_answer place (kept s) = Ok tt
 placed_answer place (refused c) = Err (fault c place)
 
--- an answer that borrows the bytes after a command
-abbrev pub stepped : Result (Bor (List ℕ)) SheetFault → Result (List ℕ) SheetFault
-stepped (Ok rest) = Ok rest.now
+-- an answer that is the reader past a command
+abbrev pub stepped : Result Reader SheetFault → Result (List ℕ) SheetFault
+stepped (Ok after) = Ok after.rest.now
 stepped (Err f) = Err f
 
 -- a refused command changes nothing
 abbrev pub left : SoFar → Took → SoFar
 left s (kept t) = t
 left s (refused c) = s
+
+-- what a turn comes to, from the command that is found at this place and the reader past it, or from the refusal
+abbrev pub goes_on : ℕ → SoFar → Result (Command × Reader) SheetFault → Turn
+goes_on place s (Ok p) = after_taking place p.1.rest.now (took (said p.0) s)
+goes_on place s (Err f) = stops f

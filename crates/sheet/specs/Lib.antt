@@ -2,6 +2,8 @@ pub mod Commands
 pub mod Drafts
 pub mod Exact
 pub mod Headers
+pub mod Homes
+pub mod Letters
 pub mod Numbers
 pub mod Orders
 pub mod Reading

@@ -29,6 +29,20 @@ abbrev pub sheet_after : Verdict → subject.Sheet
 sheet_after (fit s) = s
 sheet_after (unfit f) = blank_sheet
 
+-- a sheet if it was accepted, or the refusal
+abbrev accepted_as : subject.Sheet → Result (Unit {0}) SheetFault → Result subject.Sheet SheetFault
+accepted_as s (Ok x) = Ok s
+accepted_as s (Err f) = Err f
+
+-- the sheet of a reading whose bytes were accepted, or the refusal
+abbrev pub kept_answer : SheetReading → Result subject.Sheet SheetFault
+kept_answer r = accepted_as (kept_sheet r) r.outcome
+
 -- a sheet that is lent
 abbrev pub meant : Sheet → subject.Sheet
 meant s = record { name = s.name.now; rack = rack_of s.rack.now; requests = in_order s.requests }
+
+-- a sheet that is lent, or a refusal
+abbrev pub answer_meant : Result Sheet SheetFault → Result subject.Sheet SheetFault
+answer_meant (Ok s) = Ok (meant s)
+answer_meant (Err f) = Err f

@@ -1,5 +1,8 @@
-ghost use Rattle.std.specs.Prelude.{◌≡◌, ◌+◌, ◌*◌};
-ghost use Rattle.sheet.specs.Commands.{parsed, front_of, name_front, geometry_front, disk_front, request_front, end_front};
+ghost use Rattle.std.specs.Prelude.{◌≡◌, ◌<◌, length, IfSome};
+ghost use Rattle.sheet.specs.Commands.{parsed, front_by};
+
+use crate::letter::Letter;
+use commands::Reader;
 
 // The three numbers of a `G`.
 #[derive(Clone, Copy, Debug, PartialEq, Eq)]
@@ -10,101 +13,39 @@ pub struct Geometry {
 }
 
 // A command as it stands in a sheet. The name is the sheet's own sixteen bytes.
-#[derive(Clone, Copy, Debug)]
+#[derive(Clone, Copy, Debug, PartialEq, Eq)]
 pub enum Command<'a> {
-    Name(&'a [u8]),
+    Name(&'a [u8; 16]),
     Geometry(Geometry),
     Disk(u8),
     Request(u16),
     End,
 }
 
-// A command and the place of its first byte in the sheet.
-#[derive(Clone, Copy, Debug)]
-pub struct Placed<'a> {
-    pub command: Command<'a>,
-    pub place: usize,
-}
-
-// A block's number from its two bytes.
-fn block_of(low: u8, high: u8) -> u16
-    ensures { result ≡ low + 256 * high }
+// The command with this letter at the front, and the reader past it. None where its bytes run out.
+pub(crate) fn front<'a>(letter: Letter, reader: Reader<'a>) -> Option<(Command<'a>, Reader<'a>)>
+    ensures command { parsed result ≡ front_by letter reader.entry.rest.now }
+    ensures total { IfSome result (λ p. p.1.total ≡ reader.entry.total) }
+    ensures shorter { IfSome result (λ p. length p.1.rest.now < length reader.entry.rest.now) }
 {
-    u16::from(low) + 256 * u16::from(high)
-}
-
-// The command at the front of the bytes, and the bytes after it. None where its bytes run out, or no command has its letter.
-pub(crate) fn front(bytes: &[u8]) -> Option<(Command<'_>, &[u8])>
-    ensures { parsed result ≡ front_of bytes.now }
-{
-    let [letter, ..] = bytes else {
-        return None;
-    };
-    match char::from(*letter) {
-        'N' => front_name(bytes),
-        'G' => front_geometry(bytes),
-        'D' => front_disk(bytes),
-        'R' => front_request(bytes),
-        'E' => front_end(bytes),
-        _ => None,
-    }
-}
-
-// `N` and the sixteen bytes of the name.
-fn front_name(bytes: &[u8]) -> Option<(Command<'_>, &[u8])>
-    ensures { parsed result ≡ name_front bytes.now }
-{
-    if bytes.len() < 17 {
-        return None;
-    }
-    let (_, tail) = bytes.split_at(1);
-    let (name, rest) = tail.split_at(16);
-    Some((Command::Name(name), rest))
-}
-
-// `G` and one byte each for disks, frames and fetch time.
-fn front_geometry(bytes: &[u8]) -> Option<(Command<'_>, &[u8])>
-    ensures { parsed result ≡ geometry_front bytes.now }
-{
-    match bytes {
-        [_letter, disks, frames, fetch, rest @ ..] => {
+    match (letter, reader.rest) {
+        (Letter::Name, [_, rest @ ..]) => {
+            Some((Command::Name(rest.first_chunk()?), reader.past(17)))
+        }
+        (Letter::Geometry, [_, disks, frames, fetch, ..]) => {
             let geometry = Geometry {
                 disks: *disks,
                 frames: *frames,
                 fetch: *fetch,
             };
-            Some((Command::Geometry(geometry), rest))
+            Some((Command::Geometry(geometry), reader.past(4)))
         }
-        _ => None,
-    }
-}
-
-// `D` and a disk.
-fn front_disk(bytes: &[u8]) -> Option<(Command<'_>, &[u8])>
-    ensures { parsed result ≡ disk_front bytes.now }
-{
-    match bytes {
-        [_letter, disk, rest @ ..] => Some((Command::Disk(*disk), rest)),
-        _ => None,
-    }
-}
-
-// `R` and a block.
-fn front_request(bytes: &[u8]) -> Option<(Command<'_>, &[u8])>
-    ensures { parsed result ≡ request_front bytes.now }
-{
-    match bytes {
-        [_letter, low, high, rest @ ..] => Some((Command::Request(block_of(*low, *high)), rest)),
-        _ => None,
-    }
-}
-
-// `E`, which has no argument.
-fn front_end(bytes: &[u8]) -> Option<(Command<'_>, &[u8])>
-    ensures { parsed result ≡ end_front bytes.now }
-{
-    match bytes {
-        [_letter, rest @ ..] => Some((Command::End, rest)),
+        (Letter::Disk, [_, disk, ..]) => Some((Command::Disk(*disk), reader.past(2))),
+        (Letter::Request, [_, low, high, ..]) => {
+            let block = u16::from_le_bytes([*low, *high]);
+            Some((Command::Request(block), reader.past(3)))
+        }
+        (Letter::End, [_, ..]) => Some((Command::End, reader.past(1))),
         _ => None,
     }
 }

@@ -1,4 +1,4 @@
-ghost use Rattle.std.specs.Prelude.{◌≡◌, ◌≤◌, length};
+ghost use Rattle.std.specs.Prelude.{◌≤◌};
 
 use crate::rack::Rack;
 
@@ -8,6 +8,5 @@ pub(crate) struct Header {
     pub(crate) name: [u8; 16],
     pub(crate) rack: Rack,
     pub(crate) requests: usize,
-    ghost name_room: { length name ≡ 16 },
     ghost few_requests: { requests ≤ 4096 },
 }

@@ -13,7 +13,7 @@ impl Rack {
     pub fn disks(&self) -> u8
         ensures { result ≡ (rack_of self.now).disks }
     {
-        self.disks
+        self.geometry.disks
     }
 
     // How many frames there are.
@@ -21,7 +21,7 @@ impl Rack {
         ensures frames { result ≡ (rack_of self.now).frames }
         ensures few { result ≤ 64 }
     {
-        self.frames
+        self.geometry.frames
     }
 
     // How many steps a fetch takes.
@@ -30,7 +30,7 @@ impl Rack {
         ensures some { 0 < result }
         ensures short { result ≤ 64 }
     {
-        self.fetch
+        self.geometry.fetch
     }
 
     // How many blocks there are.
@@ -38,18 +38,7 @@ impl Rack {
         ensures blocks { result ≡ length (rack_of self.now).homes }
         ensures few { result ≤ 1024 }
     {
-        self.blocks // what stands past these means nothing
-    }
-
-    fn home(&self, block: usize) -> Option<u8>
-        ensures disk { result ≡ slice_get (rack_of self.now).homes block }
-        ensures low { MatchOption result (⊥ → ⊥) (λ d. d < 8) }
-    {
-        if block < self.blocks {
-            Some(self.homes[block])
-        } else {
-            None
-        }
+        self.homes.len()
     }
 
     // The disk of a block, if there is such a block.
@@ -57,17 +46,16 @@ impl Rack {
         ensures disk { result ≡ slice_get (rack_of self.now).homes block }
         ensures low { MatchOption result (⊥ → ⊥) (λ d. d < 8) }
     {
-        self.home(usize::from(block))
+        self.homes.get(usize::from(block))
     }
 }
 
 impl<'a> Sheet<'a> {
     // The sixteen bytes of the name.
-    pub fn name(&self) -> &'a [u8]
-        ensures name { result.now ≡ (meant self.now).name }
-        ensures sixteen { length result.now ≡ 16 }
+    pub fn name(&self) -> &'a [u8; 16]
+        ensures { result.now ≡ (meant self.now).name }
     {
-        self.name // always sixteen bytes
+        self.name // the sheet's own, whatever they are
     }
 
     // The rack that the sheet is read from.

@@ -1,8 +1,10 @@
 // The commands of a sheet, one after the other, to its end.
-ghost use Rattle.std.specs.Prelude.{◌≡◌, ℕ, ◌≤◌, List as ListOf, [], length, IfOk};
+ghost use Rattle.std.specs.Prelude.{◌≡◌, ℕ, ◌<◌, ◌≤◌, List as ListOf, [], length, slice_index, IfOk};
 ghost use Rattle.model.specs.Sheet.{RackFits};
 ghost use Rattle.sheet.specs.Drafts.{so_far};
+ghost use Rattle.sheet.specs.Exact.{ReadsExactly, OneSheet};
 ghost use Rattle.sheet.specs.Headers.{sheet_of, outcome_of};
+ghost use Rattle.sheet.specs.Homes.{homes_of};
 ghost use Rattle.sheet.specs.Reading.{complete, rack_said, sheet_said, reading};
 
 use crate::draft::Draft;
@@ -10,14 +12,15 @@ use crate::fault::SheetFault;
 use crate::header::Header;
 use crate::rack::Rack;
 use crate::stage::Stage;
+use commands::Reader;
 use records::List;
 
 impl Draft {
     // Whether the end was read and no byte is left.
-    fn is_complete(&self, rest: &[u8]) -> bool
-        ensures { (count : ℕ) (slots : ListOf ℕ) → result ≡ complete rest.now (so_far self.now count slots) }
+    fn is_complete(&self, reader: Reader) -> bool
+        ensures { (count : ℕ) (slots : ListOf ℕ) → result ≡ complete reader.entry.rest.now (so_far self.now count slots) }
     {
-        self.stage == Stage::Nothing && rest.is_empty()
+        self.stage == Stage::Nothing && reader.rest.is_empty()
     }
 
     // What a whole sheet said.
@@ -26,17 +29,12 @@ impl Draft {
         ensures sheet { (slots : ListOf ℕ) → sheet_of result slots ≡ sheet_said (so_far self.now requests slots) }
         ensures requests { result.requests ≡ requests }
     {
-        let name = self.name;
-        let homes = self.homes;
         let rack = Rack {
-            disks: self.disks,
-            frames: self.frames,
-            fetch: self.fetch,
-            blocks: self.blocks,
-            homes,
+            geometry: self.geometry,
+            homes: self.homes,
         };
         Header {
-            name,
+            name: self.name,
             rack,
             requests,
         }
@@ -48,13 +46,13 @@ fn read_commands(bytes: &[u8], list: &mut List<u16>) -> Result<Header, SheetFaul
     requires { list.old.len ≡ 0 }
     ensures outcome { outcome_of result list.new.slots.now ≡ reading bytes.now list.old.slots.now }
     ensures room { IfOk result (λ h. h.requests ≤ length list.new.slots.now) }
+    ensures known { IfOk result (λ h. (i : ℕ) → i < h.requests → slice_index list.new.slots.now i < length (homes_of h.rack.homes)) }
     ensures lent { list.new.slots.ghost_name ≡ list.old.slots.ghost_name }
 {
-    let total = bytes.len();
     let mut draft = Draft::new();
-    let mut rest = bytes;
-    while !draft.is_complete(rest) {
-        rest = draft.step(total, rest, list)?;
+    let mut reader = Reader::new(bytes);
+    while !draft.is_complete(reader) {
+        reader = draft.step(reader, list)?;
     }
     Ok(draft.header(list.len()))
 }
@@ -63,6 +61,9 @@ fn read_commands(bytes: &[u8], list: &mut List<u16>) -> Result<Header, SheetFaul
 pub(crate) fn read_sheet(bytes: &[u8], slots: &mut [u16]) -> Result<Header, SheetFault>
     ensures outcome { outcome_of result slots.new ≡ reading bytes.now slots.old }
     ensures room { IfOk result (λ h. h.requests ≤ length slots.new) }
+    ensures known { IfOk result (λ h. (i : ℕ) → i < h.requests → slice_index slots.new i < length (homes_of h.rack.homes)) }
+    ensures exact { ReadsExactly bytes.now slots.old }
+    ensures one { OneSheet }
 {
     let mut list = List::new(slots);
     read_commands(bytes, &mut list)

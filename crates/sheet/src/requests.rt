@@ -21,15 +21,12 @@ impl<'a> Requests<'a> {
     pub(crate) fn at(&self, position: usize) -> Option<u16>
         ensures { result ≡ slice_get (in_order self.now) position }
     {
-        let len = self.slots.len();
-        if position >= len {
-            return None;
+        let slots = self.slots;
+        if !self.turned {
+            return slots.get(position).copied();
         }
-        if self.turned {
-            Some(self.slots[len - 1 - position])
-        } else {
-            Some(self.slots[position])
-        }
+        let last = slots.len().checked_sub(1)?;
+        slots.get(last.checked_sub(position)?).copied()
     }
 
     pub(crate) fn turned(&self) -> Requests<'a>

@@ -1,4 +1,5 @@
 ghost use Rattle.std.specs.Prelude.{◌≡◌, ℕ, ◌<◌, ◌≤◌, length, slice_index};
+ghost use Rattle.sheet.specs.Homes.{homes_of};
 
 use crate::fault::SheetFault;
 use crate::header::Header;
@@ -9,7 +10,7 @@ use crate::header::Header;
 pub struct SheetReading<'a> {
     pub(crate) slots: &'a mut [u16],
     pub(crate) header: Header,
-    pub(crate) fault: Option<SheetFault>,
+    pub(crate) outcome: Result<(), SheetFault>,
     ghost enough_slots: { header.requests ≤ length slots.now },
-    ghost known: { (i : ℕ) → i < header.requests → slice_index slots.now i < header.rack.blocks },
+    ghost known: { (i : ℕ) → i < header.requests → slice_index slots.now i < length (homes_of header.rack.homes) },
 }

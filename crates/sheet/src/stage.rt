@@ -1,5 +1,10 @@
-ghost use Rattle.std.specs.Prelude.{◌≡◌};
+ghost use Rattle.std.specs.Prelude.{◌≡◌, true, false, MatchResult};
+ghost use Rattle.sheet.specs.declared.fault.SheetCause.TheVariants.{OutOfPlace as NotInPlace};
+ghost use Rattle.sheet.specs.Letters.{byte_of};
 ghost use Rattle.sheet.specs.Reading.{takes};
+
+use crate::fault::SheetCause;
+use crate::letter::Letter;
 
 // What may stand next in a sheet.
 #[derive(Clone, Copy, Debug, PartialEq, Eq)]
@@ -18,15 +23,27 @@ pub enum Stage {
 
 impl Stage {
     // Whether a command with this letter is in place.
-    pub(crate) fn takes(&self, letter: u8) -> bool
-        ensures { result ≡ takes self.now letter }
+    fn takes(self, letter: Letter) -> bool
+        ensures { result ≡ takes self (byte_of letter) }
     {
-        match self {
-            Stage::Name => letter == b'N',
-            Stage::Geometry => letter == b'G',
-            Stage::Blocks => letter == b'D' || letter == b'R' || letter == b'E',
-            Stage::Requests => letter == b'R' || letter == b'E',
-            Stage::Nothing => false,
+        matches!(
+            (self, letter),
+            (Stage::Name, Letter::Name)
+                | (Stage::Geometry, Letter::Geometry)
+                | (Stage::Blocks, Letter::Disk | Letter::Request | Letter::End)
+                | (Stage::Requests, Letter::Request | Letter::End)
+        )
+    }
+
+    #[tactic(auto, using(crate::proofs::Letters::takes_none))]
+    // The letter that a byte is, if a command that begins with it is in place.
+    pub(crate) fn letter(self, byte: u8) -> Result<Letter, SheetCause>
+        ensures { MatchResult result (λ letter. (byte_of letter ≡ byte) × (takes self byte ≡ true)) (λ cause. (takes self byte ≡ false) × (cause ≡ NotInPlace)) }
+    {
+        let letter = Letter::try_from(byte)?;
+        if !self.takes(letter) {
+            return Err(SheetCause::OutOfPlace);
         }
+        Ok(letter)
     }
 }

@@ -1,48 +1,52 @@
 // One command of a sheet, from its letter to what it adds.
-ghost use Rattle.std.specs.Prelude.{◌≡◌, ◌<◌, ◌≤◌, length, MatchResult};
-ghost use Rattle.sheet.specs.Reading.{turn, turn_answer, turn_left};
-ghost use Rattle.sheet.specs.Drafts.{so_far, stepped};
+ghost use Rattle.std.specs.Prelude.{◌≡◌, ◌-◌, ◌<◌, length, IfOk};
+ghost use Rattle.sheet.specs.Reading.{SoFar, turn, turn_answer, turn_left};
+ghost use Rattle.sheet.specs.Drafts.{so_far, stepped, goes_on};
 
-use crate::command::{Placed, front};
+use crate::command::{Command, front};
 use crate::draft::Draft;
 use crate::fault::{SheetCause, SheetFault};
+use commands::Reader;
 use records::List;
 
 impl Draft {
-    // Judges and takes the command at the front of `rest`, what is left of `total` bytes. Answers what then is left.
+    #[tactic(auto, using(crate::proofs::Turns::turn_none, crate::proofs::Turns::turn_misplaced))]
+    // The command at the front, and the reader past it. Refused where no byte is left, where it is out of place, and where its bytes
+    // run out.
+    fn next<'a>(&self, reader: Reader<'a>) -> Result<(Command<'a>, Reader<'a>), SheetFault>
+        ensures turn { (s : SoFar) → s.stage ≡ self.now.stage → turn reader.entry.total reader.entry.rest.now s ≡ goes_on (reader.entry.total - length reader.entry.rest.now) s result }
+        ensures total { IfOk result (λ p. p.1.total ≡ reader.entry.total) }
+        ensures shorter { IfOk result (λ p. length p.1.rest.now < length reader.entry.rest.now) }
+    {
+        let ran_out = SheetFault {
+            cause: SheetCause::RanOut,
+            place: reader.total,
+        };
+        let place = reader.place();
+        let [byte, ..] = reader.rest else {
+            return Err(ran_out);
+        };
+        match self.stage.letter(*byte) {
+            Ok(letter) => front(letter, reader).ok_or(ran_out),
+            Err(cause) => Err(SheetFault { cause, place }),
+        }
+    }
+
+    // Judges and takes the command at the front. Answers the reader past it.
     pub(crate) fn step<'a>(
         &mut self,
-        total: usize,
-        rest: &'a [u8],
+        reader: Reader<'a>,
         list: &mut List<u16>,
-    ) -> Result<&'a [u8], SheetFault>
-        requires { length rest.now ≤ total }
-        ensures answer { stepped result ≡ turn_answer (turn total rest.now (so_far self.old list.old.len list.old.slots.now)) }
-        ensures shorter { MatchResult result (λ after. length after.now < length rest.now) (λ _. ⊥ → ⊥) }
-        ensures after { so_far self.new list.new.len list.new.slots.now ≡ turn_left (so_far self.old list.old.len list.old.slots.now) (turn total rest.now (so_far self.old list.old.len list.old.slots.now)) }
+    ) -> Result<Reader<'a>, SheetFault>
+        ensures answer { stepped result ≡ turn_answer (turn reader.entry.total reader.entry.rest.now (so_far self.old list.old.len list.old.slots.now)) }
+        ensures total { IfOk result (λ after. after.total ≡ reader.entry.total) }
+        ensures shorter { IfOk result (λ after. length after.rest.now < length reader.entry.rest.now) }
+        ensures after { so_far self.new list.new.len list.new.slots.now ≡ turn_left (so_far self.old list.old.len list.old.slots.now) (turn reader.entry.total reader.entry.rest.now (so_far self.old list.old.len list.old.slots.now)) }
         ensures lent { list.new.slots.ghost_name ≡ list.old.slots.ghost_name }
     {
-        let place = total - rest.len();
-        let Some(letter) = rest.first() else {
-            return Err(SheetFault {
-                cause: SheetCause::RanOut,
-                place: total,
-            });
-        };
-        let stage = self.stage;
-        if !stage.takes(*letter) {
-            return Err(SheetFault {
-                cause: SheetCause::OutOfPlace,
-                place,
-            });
-        }
-        let Some((command, after)) = front(rest) else {
-            return Err(SheetFault {
-                cause: SheetCause::RanOut,
-                place: total,
-            });
-        };
-        self.take_placed(Placed { command, place }, list)?;
+        let place = reader.place();
+        let (command, after) = self.next(reader)?;
+        self.take_placed(command, place, list)?;
         Ok(after)
     }
 }

@@ -1,12 +1,13 @@
 // How each command of a sheet is judged and taken into the draft.
-ghost use Rattle.std.specs.Prelude.{◌≡◌, ℕ, List as ListOf, length};
+ghost use Rattle.std.specs.Prelude.{◌≡◌, ℕ, List as ListOf};
 ghost use Rattle.sheet.specs.Reading.{nothing_yet, named, within_limits, took_geometry, took_disk, took_request, took_end, took};
-ghost use Rattle.sheet.specs.Commands.{said, WholeName};
+ghost use Rattle.sheet.specs.Commands.{said};
 ghost use Rattle.sheet.specs.Drafts.{so_far, answered, placed_answer, left};
 
-use crate::command::{Command, Geometry, Placed};
+use crate::command::{Command, Geometry};
 use crate::draft::Draft;
 use crate::fault::{SheetCause, SheetFault};
+use crate::homes::Homes;
 use crate::stage::Stage;
 use records::List;
 
@@ -33,26 +34,24 @@ impl Draft {
     pub(crate) fn new() -> Draft
         ensures { (slots : ListOf ℕ) → so_far result 0 slots ≡ nothing_yet slots }
     {
-        let name = [0u8; 16];
-        let homes = [0u8; 1024];
         Draft {
             stage: Stage::Name,
-            name,
-            disks: 0,
-            frames: 0,
-            fetch: 0,
-            blocks: 0,
-            homes,
+            name: [0; 16],
+            geometry: Geometry {
+                disks: 0,
+                frames: 0,
+                fetch: 0,
+            },
+            homes: Homes::new(),
         }
     }
 
     // `N`: the sixteen bytes are kept.
-    fn take_name(&mut self, bytes: &[u8])
-        requires { length bytes.now ≡ 16 }
-        ensures { (count : ℕ) (slots : ListOf ℕ) → so_far self.new count slots ≡ named bytes.now (so_far self.old count slots) }
+    fn take_name(&mut self, name: &[u8; 16])
+        ensures { (count : ℕ) (slots : ListOf ℕ) → so_far self.new count slots ≡ named name.now (so_far self.old count slots) }
     {
         self.stage = Stage::Geometry;
-        self.name.copy_from_slice(bytes);
+        self.name = *name;
     }
 
     // `G`: refused outside the limits.
@@ -64,9 +63,7 @@ impl Draft {
             return Err(SheetCause::OutsideLimits);
         }
         self.stage = Stage::Blocks;
-        self.disks = geometry.disks;
-        self.frames = geometry.frames;
-        self.fetch = geometry.fetch;
+        self.geometry = geometry;
         Ok(())
     }
 
@@ -75,15 +72,14 @@ impl Draft {
         ensures answer { (count : ℕ) (slots : ListOf ℕ) → result ≡ answered (took_disk disk (so_far self.old count slots)) }
         ensures after { (count : ℕ) (slots : ListOf ℕ) → so_far self.new count slots ≡ left (so_far self.old count slots) (took_disk disk (so_far self.old count slots)) }
     {
-        if self.blocks >= MOST_BLOCKS {
+        if self.homes.len() >= MOST_BLOCKS {
             return Err(SheetCause::TooMany);
         }
-        if disk >= self.disks {
+        if disk >= self.geometry.disks {
             return Err(SheetCause::NotThere);
         }
         self.stage = Stage::Blocks;
-        self.homes[self.blocks] = disk;
-        self.blocks += 1;
+        self.homes.push(disk);
         Ok(())
     }
 
@@ -93,13 +89,13 @@ impl Draft {
         ensures after { so_far self.new list.new.len list.new.slots.now ≡ left (so_far self.old list.old.len list.old.slots.now) (took_request block (so_far self.old list.old.len list.old.slots.now)) }
         ensures lent { list.new.slots.ghost_name ≡ list.old.slots.ghost_name }
     {
-        if self.blocks < usize::from(self.frames) {
+        if self.homes.len() < usize::from(self.geometry.frames) {
             return Err(SheetCause::TooFewBlocks);
         }
         if list.len() >= MOST_REQUESTS {
             return Err(SheetCause::TooMany);
         }
-        if usize::from(block) >= self.blocks {
+        if usize::from(block) >= self.homes.len() {
             return Err(SheetCause::NotThere);
         }
         list.push(block)?;
@@ -112,7 +108,7 @@ impl Draft {
         ensures answer { (count : ℕ) (slots : ListOf ℕ) → result ≡ answered (took_end (so_far self.old count slots)) }
         ensures after { (count : ℕ) (slots : ListOf ℕ) → so_far self.new count slots ≡ left (so_far self.old count slots) (took_end (so_far self.old count slots)) }
     {
-        if self.blocks < usize::from(self.frames) {
+        if self.homes.len() < usize::from(self.geometry.frames) {
             return Err(SheetCause::TooFewBlocks);
         }
         self.stage = Stage::Nothing;
@@ -121,14 +117,13 @@ impl Draft {
 
     // A command that is in place and whole.
     fn take(&mut self, command: Command, list: &mut List<u16>) -> Result<(), SheetCause>
-        requires { WholeName (said command) }
         ensures answer { result ≡ answered (took (said command.entry) (so_far self.old list.old.len list.old.slots.now)) }
         ensures after { so_far self.new list.new.len list.new.slots.now ≡ left (so_far self.old list.old.len list.old.slots.now) (took (said command.entry) (so_far self.old list.old.len list.old.slots.now)) }
         ensures lent { list.new.slots.ghost_name ≡ list.old.slots.ghost_name }
     {
         match command {
-            Command::Name(bytes) => {
-                self.take_name(bytes);
+            Command::Name(name) => {
+                self.take_name(name);
                 Ok(())
             }
             Command::Geometry(geometry) => self.take_geometry(geometry),
@@ -141,18 +136,15 @@ impl Draft {
     // The same with the command's place, which a refusal tells.
     pub(crate) fn take_placed(
         &mut self,
-        placed: Placed,
+        command: Command,
+        place: usize,
         list: &mut List<u16>,
     ) -> Result<(), SheetFault>
-        requires { WholeName (said placed.command) }
-        ensures answer { result ≡ placed_answer placed.entry.place (took (said placed.entry.command) (so_far self.old list.old.len list.old.slots.now)) }
-        ensures after { so_far self.new list.new.len list.new.slots.now ≡ left (so_far self.old list.old.len list.old.slots.now) (took (said placed.entry.command) (so_far self.old list.old.len list.old.slots.now)) }
+        ensures answer { result ≡ placed_answer place (took (said command.entry) (so_far self.old list.old.len list.old.slots.now)) }
+        ensures after { so_far self.new list.new.len list.new.slots.now ≡ left (so_far self.old list.old.len list.old.slots.now) (took (said command.entry) (so_far self.old list.old.len list.old.slots.now)) }
         ensures lent { list.new.slots.ghost_name ≡ list.old.slots.ghost_name }
     {
-        let place = placed.place;
-        match self.take(placed.command, list) {
-            Ok(()) => Ok(()),
-            Err(cause) => Err(SheetFault { cause, place }),
-        }
+        self.take(command, list)
+            .map_err(|cause| SheetFault { cause, place })
     }
 }

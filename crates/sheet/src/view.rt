@@ -1,4 +1,5 @@
 ghost use Rattle.std.specs.Prelude.{◌≡◌, ℕ, ◌<◌, ◌≤◌, length, slice_index};
+ghost use Rattle.sheet.specs.Homes.{homes_of};
 
 use crate::rack::Rack;
 use crate::requests::Requests;
@@ -6,10 +7,9 @@ use crate::requests::Requests;
 // A sheet that was read. The requests lie in the caller's slots; a turned sheet reads the same slots from the far end.
 #[derive(Clone, Copy)]
 pub struct Sheet<'a> {
-    pub(crate) name: &'a [u8],
+    pub(crate) name: &'a [u8; 16],
     pub(crate) rack: &'a Rack,
     pub(crate) requests: Requests<'a>,
-    ghost sixteen: { length name.now ≡ 16 },
     ghost few_requests: { length requests.slots.now ≤ 4096 },
-    ghost known: { (i : ℕ) → i < length requests.slots.now → slice_index requests.slots.now i < rack.now.blocks },
+    ghost known: { (i : ℕ) → i < length requests.slots.now → slice_index requests.slots.now i < length (homes_of rack.now.homes) },
 }

@@ -1,0 +1,50 @@
+ghost use Rattle.std.specs.Prelude.{◌≤◌};
+
+// The disk of each block, for at most 1,024 blocks.
+#[derive(Clone, Copy)]
+pub(crate) struct Homes {
+    pub(crate) blocks: usize,
+    // the disk of block b is at b; past the blocks nothing is meant
+    pub(crate) disks: [u8; 1024],
+    ghost few_blocks: { blocks ≤ 1024 },
+}
+
+impl Homes {
+    ghost use Rattle.std.specs.Prelude.{◌≡◌, ◌<◌, [], ◌∷◌, ◌++◌, length};
+    ghost use Rattle.std.specs.List.{slice_get};
+    ghost use Rattle.sheet.specs.Homes.{homes_of};
+
+    // No block yet.
+    pub(crate) fn new() -> Homes
+        ensures { homes_of result ≡ [] }
+    {
+        Homes {
+            blocks: 0,
+            disks: [0; 1024],
+        }
+    }
+
+    // How many blocks there are.
+    pub(crate) fn len(&self) -> usize
+        ensures blocks { result ≡ length (homes_of self.now) }
+        ensures few { result ≤ 1024 }
+    {
+        self.blocks // what stands past these means nothing
+    }
+
+    // The disk of a block, if there is such a block.
+    pub(crate) fn get(&self, block: usize) -> Option<u8>
+        ensures { result ≡ slice_get (homes_of self.now) block }
+    {
+        self.disks[0..self.blocks].get(block).copied()
+    }
+
+    // One block more, on this disk.
+    pub(crate) fn push(&mut self, disk: u8)
+        requires { length (homes_of self.old) < 1024 }
+        ensures { homes_of self.new ≡ homes_of self.old ++ disk ∷ [] }
+    {
+        self.disks[self.blocks] = disk;
+        self.blocks += 1;
+    }
+}

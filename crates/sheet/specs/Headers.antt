@@ -4,11 +4,11 @@ use Rattle.model.specs.Sheet as subject
 use Rattle.sheet.specs.Numbers.{SheetFault}
 use Rattle.sheet.specs.declared.header.Header.{Header}
 use Rattle.sheet.specs.declared.rack.Rack.{Rack}
-use Rattle.sheet.specs.Homes.{homes_of}
+use Rattle.sheet.specs.Homes.{rack_with}
 use Rattle.sheet.specs.Reading.{Outcome, fit, unfit}
 
 abbrev pub rack_of : Rack → subject.Rack
-rack_of r = record { disks = r.geometry.disks; frames = r.geometry.frames; fetch = r.geometry.fetch; homes = homes_of r.homes }
+rack_of r = rack_with r.geometry r.homes
 
 -- the first slots are the requests
 abbrev pub sheet_of : Header → List ℕ → subject.Sheet

@@ -35,8 +35,8 @@ impl Stage {
         )
     }
 
-    #[tactic(auto, using(crate::proofs::Letters::takes_none))]
     // The letter that a byte is, if a command that begins with it is in place.
+    #[tactic(auto, using(crate::proofs::Letters::takes_none))]
     pub(crate) fn letter(self, byte: u8) -> Result<Letter, SheetCause>
         ensures { MatchResult result (λ letter. (byte_of letter ≡ byte) × (takes self byte ≡ true)) (λ cause. (takes self byte ≡ false) × (cause ≡ NotInPlace)) }
     {

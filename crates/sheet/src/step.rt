@@ -10,9 +10,9 @@ use commands::Reader;
 use records::List;
 
 impl Draft {
-    #[tactic(auto, using(crate::proofs::Turns::turn_none, crate::proofs::Turns::turn_misplaced))]
     // The command at the front, and the reader past it. Refused where no byte is left, where it is out of place, and where its bytes
     // run out.
+    #[tactic(auto, using(crate::proofs::Turns::turn_none, crate::proofs::Turns::turn_misplaced))]
     fn next<'a>(&self, reader: Reader<'a>) -> Result<(Command<'a>, Reader<'a>), SheetFault>
         ensures turn { (s : SoFar) → s.stage ≡ self.now.stage → turn reader.entry.total reader.entry.rest.now s ≡ goes_on (reader.entry.total - length reader.entry.rest.now) s result }
         ensures total { IfOk result (λ p. p.1.total ≡ reader.entry.total) }

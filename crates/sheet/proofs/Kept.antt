@@ -6,7 +6,7 @@ use Rattle.model.specs.Sheet.{Fits}
 use Rattle.sheet.specs.Numbers.{SheetFault}
 use Rattle.sheet.specs.declared.header.Header.{Header}
 use Rattle.sheet.specs.Headers.{sheet_of, outcome_of}
-use Rattle.sheet.specs.Homes.{homes_of}
+use Rattle.sheet.specs.Racks.{homes_of}
 use Rattle.sheet.specs.Reading.{Verdict, fit, unfit, reading}
 use Rattle.sheet.specs.Sheets.{blank_sheet, sheet_after}
 use Rattle.sheet.proofs.Only.{Bytes, Told, told}

@@ -1,9 +1,10 @@
 -- What a draft and the caller's list say together, and what a command's answer is. Assumes nothing.
 use Rattle.std.specs.Prelude.{ℕ, List, Ok, Err, Result}
 use Rattle.commands.specs.declared.reader.Reader.{Reader}
+use Rattle.records.specs.declared.list.List.{List as Listed}
 use Rattle.sheet.specs.declared.command.Command.{Command}
 use Rattle.sheet.specs.Commands.{said}
-use Rattle.sheet.specs.Homes.{homes_of}
+use Rattle.sheet.specs.Racks.{homes_of}
 use Rattle.sheet.specs.declared.draft.Draft.{Draft}
 use Rattle.sheet.specs.declared.fault.SheetCause.{SheetCause}
 use Rattle.sheet.specs.Numbers.{SheetFault}
@@ -21,6 +22,10 @@ so_far d count slots = record {
   slots = slots;
   count = count;
 }
+
+-- a draft, with the caller's list
+abbrev pub with_list : Draft → Listed ℕ → SoFar
+with_list d list = so_far d list.len list.slots.now
 
 abbrev pub answered : Took → Result (Unit {0}) SheetCause
 answered (kept s) = Ok tt

@@ -4,7 +4,7 @@ use Rattle.model.specs.Sheet as subject
 use Rattle.sheet.specs.Numbers.{SheetFault}
 use Rattle.sheet.specs.declared.header.Header.{Header}
 use Rattle.sheet.specs.declared.rack.Rack.{Rack}
-use Rattle.sheet.specs.Homes.{rack_with}
+use Rattle.sheet.specs.Racks.{rack_with}
 use Rattle.sheet.specs.Reading.{Outcome, fit, unfit}
 
 abbrev pub rack_of : Rack → subject.Rack

@@ -2,9 +2,9 @@ pub mod Commands
 pub mod Drafts
 pub mod Exact
 pub mod Headers
-pub mod Homes
 pub mod Letters
 pub mod Numbers
 pub mod Orders
+pub mod Racks
 pub mod Reading
 pub mod Sheets

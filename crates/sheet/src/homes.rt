@@ -12,7 +12,7 @@ pub(crate) struct Homes {
 impl Homes {
     ghost use Rattle.std.specs.Prelude.{◌≡◌, ◌<◌, [], ◌∷◌, ◌++◌, length};
     ghost use Rattle.std.specs.List.{slice_get};
-    ghost use Rattle.sheet.specs.Homes.{homes_of};
+    ghost use Rattle.sheet.specs.Racks.{homes_of};
 
     // No block yet.
     pub(crate) fn new() -> Homes

@@ -1,7 +1,7 @@
 // Reading a sheet and lending it.
-ghost use Rattle.std.specs.Prelude.{◌≡◌};
+ghost use Rattle.std.specs.Prelude.{◌≡◌, ℕ, List as ListOf};
 ghost use Rattle.sheet.specs.Exact.{ReadsExactly, OneSheet};
-ghost use Rattle.sheet.specs.Headers.{rack_of};
+ghost use Rattle.sheet.specs.Headers.{rack_of, sheet_of};
 ghost use Rattle.sheet.specs.Reading.{reading};
 ghost use Rattle.sheet.specs.Sheets.{kept_sheet, kept_answer, answer_meant, blank_sheet, fault_in, outcome_answer, sheet_after, meant};
 
@@ -35,8 +35,7 @@ impl Rack {
 
 impl Header {
     fn blank() -> Header
-        ensures name { result.name ≡ blank_sheet.name }
-        ensures rack { rack_of result.rack ≡ blank_sheet.rack }
+        ensures sheet { (slots : ListOf ℕ) → sheet_of result slots ≡ blank_sheet }
         ensures requests { result.requests ≡ 0 }
     {
         Header {

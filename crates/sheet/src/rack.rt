@@ -1,5 +1,5 @@
 ghost use Rattle.model.specs.Sheet.{RackFits};
-ghost use Rattle.sheet.specs.Homes.{rack_with};
+ghost use Rattle.sheet.specs.Racks.{rack_with};
 
 use crate::command::Geometry;
 use crate::homes::Homes;

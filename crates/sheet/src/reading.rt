@@ -1,11 +1,11 @@
 // The commands of a sheet, one after the other, to its end.
-ghost use Rattle.std.specs.Prelude.{◌≡◌, ℕ, ◌<◌, ◌≤◌, List as ListOf, [], length, slice_index, IfOk};
+ghost use Rattle.std.specs.Prelude.{◌≡◌, ℕ, ◌<◌, ◌≤◌, List as ListOf, length, slice_index, IfOk};
 ghost use Rattle.model.specs.Sheet.{RackFits};
 ghost use Rattle.sheet.specs.Drafts.{so_far};
 ghost use Rattle.sheet.specs.Exact.{ReadsExactly, OneSheet};
 ghost use Rattle.sheet.specs.Headers.{sheet_of, outcome_of};
-ghost use Rattle.sheet.specs.Homes.{homes_of};
-ghost use Rattle.sheet.specs.Reading.{complete, rack_said, sheet_said, reading};
+ghost use Rattle.sheet.specs.Racks.{homes_of, rack_with};
+ghost use Rattle.sheet.specs.Reading.{complete, sheet_said, reading};
 
 use crate::draft::Draft;
 use crate::fault::SheetFault;
@@ -25,7 +25,8 @@ impl Draft {
 
     // What a whole sheet said.
     fn header(&self, requests: usize) -> Header
-        requires { (RackFits (rack_said (so_far self.now 0 []))) × (requests ≤ 4096) }
+        requires rack { RackFits (rack_with self.now.geometry self.now.homes) }
+        requires few { requests ≤ 4096 }
         ensures sheet { (slots : ListOf ℕ) → sheet_of result slots ≡ sheet_said (so_far self.now requests slots) }
         ensures requests { result.requests ≡ requests }
     {

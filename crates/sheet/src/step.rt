@@ -1,7 +1,7 @@
 // One command of a sheet, from its letter to what it adds.
 ghost use Rattle.std.specs.Prelude.{◌≡◌, ◌-◌, ◌<◌, length, IfOk};
 ghost use Rattle.sheet.specs.Reading.{SoFar, turn, turn_answer, turn_left};
-ghost use Rattle.sheet.specs.Drafts.{so_far, stepped, goes_on};
+ghost use Rattle.sheet.specs.Drafts.{with_list, stepped, goes_on};
 
 use crate::command::{Command, front};
 use crate::draft::Draft;
@@ -38,10 +38,10 @@ impl Draft {
         reader: Reader<'a>,
         list: &mut List<u16>,
     ) -> Result<Reader<'a>, SheetFault>
-        ensures answer { stepped result ≡ turn_answer (turn reader.entry.total reader.entry.rest.now (so_far self.old list.old.len list.old.slots.now)) }
+        ensures answer { stepped result ≡ turn_answer (turn reader.entry.total reader.entry.rest.now (with_list self.old list.old)) }
         ensures total { IfOk result (λ after. after.total ≡ reader.entry.total) }
         ensures shorter { IfOk result (λ after. length after.rest.now < length reader.entry.rest.now) }
-        ensures after { so_far self.new list.new.len list.new.slots.now ≡ turn_left (so_far self.old list.old.len list.old.slots.now) (turn reader.entry.total reader.entry.rest.now (so_far self.old list.old.len list.old.slots.now)) }
+        ensures after { with_list self.new list.new ≡ turn_left (with_list self.old list.old) (turn reader.entry.total reader.entry.rest.now (with_list self.old list.old)) }
         ensures lent { list.new.slots.ghost_name ≡ list.old.slots.ghost_name }
     {
         let place = reader.place();

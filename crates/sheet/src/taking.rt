@@ -2,7 +2,7 @@
 ghost use Rattle.std.specs.Prelude.{◌≡◌, ℕ, List as ListOf};
 ghost use Rattle.sheet.specs.Reading.{nothing_yet, named, within_limits, took_geometry, took_disk, took_request, took_end, took};
 ghost use Rattle.sheet.specs.Commands.{said};
-ghost use Rattle.sheet.specs.Drafts.{so_far, answered, placed_answer, left};
+ghost use Rattle.sheet.specs.Drafts.{so_far, with_list, answered, placed_answer, left};
 
 use crate::command::{Command, Geometry};
 use crate::draft::Draft;
@@ -85,8 +85,8 @@ impl Draft {
 
     // `R`: one request more, into the caller's list.
     fn take_request(&mut self, block: u16, list: &mut List<u16>) -> Result<(), SheetCause>
-        ensures answer { result ≡ answered (took_request block (so_far self.old list.old.len list.old.slots.now)) }
-        ensures after { so_far self.new list.new.len list.new.slots.now ≡ left (so_far self.old list.old.len list.old.slots.now) (took_request block (so_far self.old list.old.len list.old.slots.now)) }
+        ensures answer { result ≡ answered (took_request block (with_list self.old list.old)) }
+        ensures after { with_list self.new list.new ≡ left (with_list self.old list.old) (took_request block (with_list self.old list.old)) }
         ensures lent { list.new.slots.ghost_name ≡ list.old.slots.ghost_name }
     {
         if self.homes.len() < usize::from(self.geometry.frames) {
@@ -117,8 +117,8 @@ impl Draft {
 
     // A command that is in place and whole.
     fn take(&mut self, command: Command, list: &mut List<u16>) -> Result<(), SheetCause>
-        ensures answer { result ≡ answered (took (said command.entry) (so_far self.old list.old.len list.old.slots.now)) }
-        ensures after { so_far self.new list.new.len list.new.slots.now ≡ left (so_far self.old list.old.len list.old.slots.now) (took (said command.entry) (so_far self.old list.old.len list.old.slots.now)) }
+        ensures answer { result ≡ answered (took (said command.entry) (with_list self.old list.old)) }
+        ensures after { with_list self.new list.new ≡ left (with_list self.old list.old) (took (said command.entry) (with_list self.old list.old)) }
         ensures lent { list.new.slots.ghost_name ≡ list.old.slots.ghost_name }
     {
         match command {
@@ -140,8 +140,8 @@ impl Draft {
         place: usize,
         list: &mut List<u16>,
     ) -> Result<(), SheetFault>
-        ensures answer { result ≡ placed_answer place (took (said command.entry) (so_far self.old list.old.len list.old.slots.now)) }
-        ensures after { so_far self.new list.new.len list.new.slots.now ≡ left (so_far self.old list.old.len list.old.slots.now) (took (said command.entry) (so_far self.old list.old.len list.old.slots.now)) }
+        ensures answer { result ≡ placed_answer place (took (said command.entry) (with_list self.old list.old)) }
+        ensures after { with_list self.new list.new ≡ left (with_list self.old list.old) (took (said command.entry) (with_list self.old list.old)) }
         ensures lent { list.new.slots.ghost_name ≡ list.old.slots.ghost_name }
     {
         self.take(command, list)

@@ -1,5 +1,5 @@
 ghost use Rattle.std.specs.Prelude.{◌≡◌, ℕ, ◌<◌, ◌≤◌, length, slice_index};
-ghost use Rattle.sheet.specs.Homes.{homes_of};
+ghost use Rattle.sheet.specs.Racks.{homes_of};
 
 use crate::rack::Rack;
 use crate::requests::Requests;

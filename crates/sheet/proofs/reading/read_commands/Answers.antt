@@ -38,7 +38,7 @@ header-requires c =
     let all = told bytes slots (λ i. omega (arith, c.type_inv.bytes i)) in
     let fits = (subst (λ (o : Outcome). Told bytes slots o.verdict o.slots) done all).0 in
     let long = length-take-le l.len l.slots.now l.fits in
-    (fits.rack, omega (arith, fits.few, c.len.ensures))
+    record { rack = fits.rack; few = omega (arith, fits.few, c.len.ensures) }
 
 pub returns : goal.returns
 returns c =

@@ -1,7 +1,6 @@
 -- The command at the front of some bytes, by its letter. Assumes nothing.
 use Rattle.std.proofs.Common.{◌≡◌, ℕ, suc, ◌<◌, ◌≤◌, cond, eqb, leb, List, length, get_or, drop, Some, None, Option, sym, subst, arith, length-drop, length-take}
-use Rattle.std.proofs.lemmas.List.{get_or_past}
-use Rattle.std.proofs.lemmas.Bool.{cond_both, leb-true, ne_eqb}
+use Rattle.std.proofs.lemmas.Bool.{cond_both, leb-true}
 use Rattle.model.specs.Sheet.{letter_n, letter_g, letter_d, letter_r, letter_e}
 use Rattle.sheet.specs.declared.letter.Letter.{Letter}
 use Rattle.sheet.specs.declared.letter.Letter.TheVariants as letter
@@ -28,17 +27,6 @@ module _ (bytes : List ℕ) where
   pub by_E : get_or bytes 0 0 ≡ 69 → front_of bytes ≡ end_front bytes
   unfolding front_of
   by_E e = rw e
-
-  pub by_none : length bytes ≡ 0 → front_of bytes ≡ None
-  unfolding front_of
-  by_none e =
-      let past : get_or bytes 0 0 ≡ 0 = get_or_past bytes 0 0 (omega arith) in
-      rw past
-
-  pub by_other : (get_or bytes 0 0 ≡ 78 → ⊥) → (get_or bytes 0 0 ≡ 71 → ⊥) → (get_or bytes 0 0 ≡ 68 → ⊥) → (get_or bytes 0 0 ≡ 82 → ⊥) → (get_or bytes 0 0 ≡ 69 → ⊥) → front_of bytes ≡ None
-  unfolding front_of
-  by_other n g d r e =
-      rw (ne_eqb _ 78 n, ne_eqb _ 71 g, ne_eqb _ 68 d, ne_eqb _ 82 r, ne_eqb _ 69 e)
 
 -- the command at the front is that of the letter there
 pub front_is : (bytes : List ℕ) (l : Letter) → byte_of l ≡ get_or bytes 0 0 → front_of bytes ≡ front_by l bytes

@@ -5,6 +5,5 @@ pub mod Kept
 pub mod Letters
 pub mod Only
 pub mod Runs
-pub mod Taken
 pub mod Turned
 pub mod Turns

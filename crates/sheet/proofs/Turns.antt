@@ -1,5 +1,5 @@
 -- One command, by how it is judged. Assumes nothing.
-use Rattle.std.proofs.Common.{◌≡◌, ℕ, ◌-◌, ◌<◌, true, false, List, length, get_or, Some, None, Option, Ok, Err, Result, sym, refl, ap, ◌∙◌, arith}
+use Rattle.std.proofs.Common.{◌≡◌, ℕ, ◌-◌, ◌<◌, true, false, List, length, get_or, Some, None, Option, Result, sym, ◌∙◌, arith}
 use Rattle.std.specs.Option.{ok_or}
 use Rattle.std.proofs.lemmas.Bool.{eq-eqb, ne_eqb}
 use Rattle.sheet.specs.declared.fault.SheetCause.TheVariants.{RanOut, OutOfPlace}
@@ -11,9 +11,9 @@ use Rattle.sheet.specs.declared.stage.Stage.{Stage}
 use Rattle.sheet.specs.declared.fault.SheetCause.{SheetCause}
 use Rattle.sheet.specs.Letters.{byte_of}
 use Rattle.sheet.specs.Commands.{Said, said, parsed, front_of, front_by}
-use Rattle.sheet.specs.Drafts.{placed_answer, left, goes_on}
+use Rattle.sheet.specs.Drafts.{goes_on}
 use Rattle.sheet.proofs.Fronts.{front_is}
-use Rattle.sheet.specs.Reading.{SoFar, Took, kept, refused, takes, took, stops, fault, after_taking, turn, turn_answer, turn_left}
+use Rattle.sheet.specs.Reading.{SoFar, takes, took, stops, fault, after_taking, turn}
 
 module _ (total : ℕ) (rest : List ℕ) (s : SoFar) where
   pub turn_none : length rest ≡ 0 → turn total rest s ≡ stops (fault RanOut total)
@@ -42,16 +42,3 @@ module _ (total : ℕ) (rest : List ℕ) (s : SoFar) where
 
   pub turn_on : (r : Result (Command × Reader) SheetFault) (g : Stage) (l : Letter) (o : Option (Command × Reader)) → r ≡ ok_or o (fault RanOut total) → parsed o ≡ front_by l rest → byte_of l ≡ get_or rest 0 0 → 0 < length rest → s.stage ≡ g → takes g (get_or rest 0 0) ≡ true → turn total rest s ≡ goes_on (total - length rest) s r
   turn_on r g l o is h b some e f = rw is (turn_front g l o some e f b h)
-
-module _ (place : ℕ) (after : List ℕ) where
-  pub granted : (t : Took) → placed_answer place t ≡ Ok tt → Ok after ≡ turn_answer (after_taking place after t)
-  granted (kept s) e = refl
-  granted (refused c) e = let z : ◌≡◌ {A = ℕ} 0 1 = cc in absurd (omega arith)
-
-  pub denied : (t : Took) (f : SheetFault) → placed_answer place t ≡ Err f → Err f ≡ turn_answer (after_taking place after t)
-  denied (kept s) f e = let z : ◌≡◌ {A = ℕ} 0 1 = cc in absurd (omega arith)
-  denied (refused c) f e = let same : fault c place ≡ f = cc in ap Err (sym same)
-
-  pub remains : (s : SoFar) (t : Took) → left s t ≡ turn_left s (after_taking place after t)
-  remains s (kept u) = refl
-  remains s (refused c) = refl

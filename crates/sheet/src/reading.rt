@@ -59,6 +59,7 @@ fn read_commands(bytes: &[u8], list: &mut List<u16>) -> Result<Header, SheetFaul
 }
 
 // Reads a sheet's bytes. The requests go into the caller's slots, from the first one on.
+#[tactic(auto, using(crate::proofs::Exactly::exactly, crate::proofs::Exactly::one_sheet))]
 pub(crate) fn read_sheet(bytes: &[u8], slots: &mut [u16]) -> Result<Header, SheetFault>
     ensures outcome { outcome_of result slots.new ≡ reading bytes.now slots.old }
     ensures room { IfOk result (λ h. h.requests ≤ length slots.new) }

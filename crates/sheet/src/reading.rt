@@ -43,6 +43,7 @@ impl Draft {
 }
 
 // Reads a sheet's bytes, command by command, into a list that is empty.
+// Apart from `read_sheet`: a proof can cite what the list's slots hold here, and no more once the list has given them back.
 fn read_commands(bytes: &[u8], list: &mut List<u16>) -> Result<Header, SheetFault>
     requires { list.old.len ≡ 0 }
     ensures outcome { outcome_of result list.new.slots.now ≡ reading bytes.now list.old.slots.now }

@@ -1,7 +1,8 @@
-use Rattle.std.proofs.Common.{ℕ, suc, ◌≤◌, List, length, Ok, sym, refl, ap, ◌∙◌, subst, arith}
+use Rattle.std.proofs.Common.{◌≡◌, ℕ, suc, List, length, Ok, sym, refl, ap, ◌∙◌, subst, arith}
 use Rattle.std.proofs.lemmas.List.{length-take-le}
 use Rattle.std.proofs.lemmas.Result.{err_from_is_err_and}
 use Rattle.sheet.specs.Drafts.{so_far}
+use Rattle.sheet.specs.Headers.{outcome_of}
 use Rattle.sheet.specs.Reading.{Outcome, SoFar, sheet_said, turn, turn_left, reading}
 use Rattle.sheet.proofs.Kept.{known_read}
 use Rattle.sheet.proofs.Only.{Told, told}
@@ -40,18 +41,24 @@ header-requires c =
     let long = length-take-le l.len l.slots.now l.fits in
     record { rack = fits.rack; few = omega (arith, fits.few, c.len.ensures) }
 
-pub returns : goal.returns
-returns c =
+-- what the header says with the list's slots
+read_to_end : (c : goal.After-header) → outcome_of (Ok c.header.result) c.loop-reader.list.slots.now ≡ reading c.args.bytes.now c.args.list.now.slots.now
+read_to_end c =
     let l = c.loop-reader.list in
     let s = so_far c.loop-reader.draft l.len l.slots.now in
     let done = leads_to_end c.loop-reader.reader.total c.loop-reader.reader.rest.now s _ (sym (c.loop-reader-test.ensures l.len l.slots.now)) c.loop-reader.invariant.1 in
     let said = λ (xs : List ℕ). c.header.ensures.sheet xs ∙ ap (λ n. sheet_said (so_far c.loop-reader.draft n xs)) c.len.ensures in
-    let came = answer_ok c.header.result c.loop-reader.draft l.len l.slots.now l.slots.now _ refl said done in
-    let enough : c.header.result.requests ≤ length l.slots.now = omega (arith, c.header.ensures.requests, c.len.ensures, l.fits) in
-    record { outcome = came; room = enough; known = known_read (Ok c.header.result) c.args.bytes.now _ l.slots.now (λ i. omega (arith, c.type_inv.bytes i)) came enough; lent = c.loop-reader.invariant.0 }
+    answer_ok c.header.result c.loop-reader.draft l.len l.slots.now l.slots.now _ refl said done
 
-pub returns-in_err-reader : goal.returns-in_err-reader
-returns-in_err-reader c =
+pub returns-clause-outcome : goal.returns-clause-outcome
+returns-clause-outcome c = read_to_end c
+
+pub returns-clause-known : goal.returns-clause-known
+returns-clause-known c =
+    known_read (Ok c.header.result) c.args.bytes.now _ c.loop-reader.list.slots.now (λ i. omega (arith, c.type_inv.bytes i)) (read_to_end c) (omega (arith, c.header.ensures.requests, c.len.ensures, c.loop-reader.list.fits))
+
+pub returns-in_err-reader-clause-outcome : goal.returns-in_err-reader-clause-outcome
+returns-in_err-reader-clause-outcome c =
     let total = c.loop-reader.reader.total in
     let rest = c.loop-reader.reader.rest.now in
     let l = c.loop-reader.list in
@@ -61,9 +68,4 @@ returns-in_err-reader c =
     let stop = was_stopped (turn total rest s) f c.in_err-reader.ensures.answer in
     let residual = err_from_is_err_and c.from_residual.result c.from_residual.ensures.1 in
     let kept = ap (λ (t : SoFar). t.slots) (c.step.ensures.after ∙ ap (turn_left s) stop) in
-    record {
-      outcome = answer_err _ f _ l.slots.now _ _ residual.1 residual.2 kept (leads_to_stop total rest s _ f incomplete stop c.loop-reader.invariant.1);
-      room = rw residual.1 tt;
-      known = rw residual.1 tt;
-      lent = c.step.ensures.lent ∙ c.loop-reader.invariant.0;
-    }
+    answer_err _ f _ l.slots.now _ _ residual.1 residual.2 kept (leads_to_stop total rest s _ f incomplete stop c.loop-reader.invariant.1)

@@ -1,7 +1,7 @@
 -- Only the bytes of a sheet within the limits are read as a sheet, and what a refusal leaves. Assumes nothing.
-use Rattle.std.proofs.Common.{◌≡◌, ℕ, zero, suc, ◌+◌, ◌-◌, ◌*◌, ◌/◌, ◌%◌, ◌<◌, ◌≤◌, true, false, cond, eqb, ltb, leb, List, [], ◌∷◌, ◌++◌, length, get_or, take, drop, Some, None, Option, sym, refl, ap, ◌∙◌, subst, ⊎_elim, append_assoc, append-nil, arith, length-append, length-drop, length-set, take-append-drop, length-take, get_or-set_other, get_or-set_same}
+use Rattle.std.proofs.Common.{◌≡◌, ℕ, zero, suc, ◌+◌, ◌-◌, ◌*◌, ◌/◌, ◌%◌, ◌<◌, ◌≤◌, true, false, cond, eqb, ltb, leb, List, [], ◌∷◌, ◌++◌, length, get_or, take, drop, Some, None, Option, sym, refl, ap, ◌∙◌, subst, ⊎_elim, append_assoc, append-nil, arith, length-append, length-drop, length-set, take-append-drop, length-take, get_or-set_other, get_or-set_same, get_or-drop, drop-cons}
 use Rattle.std.specs.List.{flat_map}
-use Rattle.std.proofs.lemmas.List.{flat_map_more, take_more_set, drop-drop, drop-set-lt, get_or_append_left, get_or_push, get_or-take, length-take-le, nil_from_length}
+use Rattle.std.proofs.lemmas.List.{get_or_past, flat_map_more, take_more_set, drop-drop, drop-set-lt, get_or_append_left, get_or_push, get_or-take, length-take-le, nil_from_length}
 use Rattle.std.proofs.lemmas.Bool.{cond_both, leb-true, ltb-true, ltb-false, eqb-true, and_parts, or_cases, cases_eq}
 use Rattle.records.specs.Records.{written_over}
 use Rattle.model.specs.Sheet.{Fits, Between, sheet_bytes, name_bytes, rack_bytes, geometry_bytes, disk_bytes, request_bytes, end_bytes}
@@ -19,39 +19,24 @@ abbrev pub Bytes : List ℕ → Type 0
 Bytes xs = (i : ℕ) → get_or xs i 0 < 256
 
 bytes_take : (n : ℕ) (xs : List ℕ) → Bytes xs → Bytes (take n xs)
-bytes_take zero xs h i = omega arith
-bytes_take (suc n) [] h i = omega arith
-bytes_take (suc n) (x ∷ xs) h zero = h 0
-bytes_take (suc n) (x ∷ xs) h (suc i) = bytes_take n xs (λ k. h (suc k)) i
+bytes_take n xs h i = grind (arith, get_or-take, get_or_past, length-take, h i)
 
 bytes_drop : (n : ℕ) (xs : List ℕ) → Bytes xs → Bytes (drop n xs)
-bytes_drop zero xs h i = h i
-bytes_drop (suc n) [] h i = omega arith
-bytes_drop (suc n) (x ∷ xs) h i = bytes_drop n xs (λ k. h (suc k)) i
+bytes_drop n xs h i = rw (get_or-drop n xs i 0) (h (n + i))
 
 -- Bytes taken off the front.
 
 shape₁ : (xs : List ℕ) → 1 ≤ length xs → xs ≡ get_or xs 0 0 ∷ drop 1 xs
-shape₁ [] l = absurd (omega arith)
-shape₁ (a ∷ xs) l = refl
+shape₁ xs l = drop-cons xs 0 0 l
 
 shape₂ : (xs : List ℕ) → 2 ≤ length xs → xs ≡ get_or xs 0 0 ∷ get_or xs 1 0 ∷ drop 2 xs
-shape₂ [] l = absurd (omega arith)
-shape₂ (a ∷ []) l = absurd (omega arith)
-shape₂ (a ∷ b ∷ xs) l = refl
+shape₂ xs l = shape₁ xs (omega arith) ∙ ap (λ (ys : List ℕ). get_or xs 0 0 ∷ ys) (drop-cons xs 1 0 l)
 
 shape₃ : (xs : List ℕ) → 3 ≤ length xs → xs ≡ get_or xs 0 0 ∷ get_or xs 1 0 ∷ get_or xs 2 0 ∷ drop 3 xs
-shape₃ [] l = absurd (omega arith)
-shape₃ (a ∷ []) l = absurd (omega arith)
-shape₃ (a ∷ b ∷ []) l = absurd (omega arith)
-shape₃ (a ∷ b ∷ c ∷ xs) l = refl
+shape₃ xs l = shape₂ xs (omega arith) ∙ ap (λ (ys : List ℕ). get_or xs 0 0 ∷ get_or xs 1 0 ∷ ys) (drop-cons xs 2 0 l)
 
 shape₄ : (xs : List ℕ) → 4 ≤ length xs → xs ≡ get_or xs 0 0 ∷ get_or xs 1 0 ∷ get_or xs 2 0 ∷ get_or xs 3 0 ∷ drop 4 xs
-shape₄ [] l = absurd (omega arith)
-shape₄ (a ∷ []) l = absurd (omega arith)
-shape₄ (a ∷ b ∷ []) l = absurd (omega arith)
-shape₄ (a ∷ b ∷ c ∷ []) l = absurd (omega arith)
-shape₄ (a ∷ b ∷ c ∷ d ∷ xs) l = refl
+shape₄ xs l = shape₃ xs (omega arith) ∙ ap (λ (ys : List ℕ). get_or xs 0 0 ∷ get_or xs 1 0 ∷ get_or xs 2 0 ∷ ys) (drop-cons xs 3 0 l)
 
 -- Parts of the bytes, put together in two ways.
 

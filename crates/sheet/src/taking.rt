@@ -20,12 +20,9 @@ impl Geometry {
     fn is_within_limits(&self) -> bool
         ensures { result ≡ within_limits self.now.disks self.now.frames self.now.fetch }
     {
-        1 <= self.disks
-            && self.disks <= 8
-            && 1 <= self.frames
-            && self.frames <= 64
-            && 1 <= self.fetch
-            && self.fetch <= 64
+        (1..=8).contains(&self.disks)
+            && (1..=64).contains(&self.frames)
+            && (1..=64).contains(&self.fetch)
     }
 }
 

@@ -74,8 +74,8 @@ module _ (total : ℕ) (rest : List ℕ) (s : SoFar) (o : Outcome) where
 
 -- What the loop answers.
 
-pub answer_ok : (h : Header) (d : Draft) (count : ℕ) (final slots : List ℕ) (o : Outcome) → final ≡ slots → ((xs : List ℕ) → sheet_of h xs ≡ sheet_said (so_far d count xs)) → o ≡ record { verdict = fit (sheet_said (so_far d count slots)); slots = slots } → ◌≡◌ {A = Outcome} (record { verdict = fit (sheet_of h final); slots = final }) o
-answer_ok h d count final slots o e is f = rw (e, is slots, f)
+pub answer_ok : (h : Header) (d : Draft) (count : ℕ) (slots : List ℕ) (o : Outcome) → ((xs : List ℕ) → sheet_of h xs ≡ sheet_said (so_far d count xs)) → o ≡ record { verdict = fit (sheet_said (so_far d count slots)); slots = slots } → outcome_of (Ok h) slots ≡ o
+answer_ok h d count slots o is f = rw (is slots, f)
 
 pub answer_err : (g f : SheetFault) (final slots : List ℕ) (o : Outcome) (r : Result Header SheetFault) → r ≡ Err g → g ≡ f → final ≡ slots → o ≡ record { verdict = unfit f; slots = slots } → outcome_of r final ≡ o
 answer_err g f final slots o r e same is h = rw (e, same, is, h)

@@ -6,6 +6,7 @@ use crate::header::Header;
 
 // What reading a sheet's bytes came to: the sheet, with its requests in the slots that the caller lent, or a fault. Where there is a
 // fault the sheet is blank: one disk, one frame, a fetch time of 1, one block, no request.
+// The slots stand here and no list over them: where the bytes were refused, the list is longer than the blank sheet's requests.
 #[derive(Drop)]
 pub struct SheetReading<'a> {
     pub(crate) slots: &'a mut [u16],

@@ -48,7 +48,7 @@ read_to_end c =
     let s = so_far c.loop-reader.draft l.len l.slots.now in
     let done = leads_to_end c.loop-reader.reader.total c.loop-reader.reader.rest.now s _ (sym (c.loop-reader-test.ensures l.len l.slots.now)) c.loop-reader.invariant.1 in
     let said = λ (xs : List ℕ). c.header.ensures.sheet xs ∙ ap (λ n. sheet_said (so_far c.loop-reader.draft n xs)) c.len.ensures in
-    answer_ok c.header.result c.loop-reader.draft l.len l.slots.now l.slots.now _ refl said done
+    answer_ok c.header.result c.loop-reader.draft l.len l.slots.now _ said done
 
 pub returns-clause-outcome : goal.returns-clause-outcome
 returns-clause-outcome c = read_to_end c

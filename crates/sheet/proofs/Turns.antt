@@ -1,9 +1,8 @@
 -- One command, by how it is judged. Assumes nothing.
-use Rattle.std.proofs.Common.{◌≡◌, ℕ, ◌-◌, ◌<◌, true, false, List, length, get_or, Some, None, Option, Result, sym, ◌∙◌, arith}
+use Rattle.std.proofs.Common.{◌≡◌, ℕ, ◌-◌, ◌<◌, true, false, List, length, get_or, Some, None, Option, sym, ◌∙◌, arith}
 use Rattle.std.specs.Option.{ok_or}
 use Rattle.std.proofs.lemmas.Bool.{eq-eqb, ne_eqb}
 use Rattle.sheet.specs.declared.fault.SheetCause.TheVariants.{RanOut, OutOfPlace}
-use Rattle.sheet.specs.Numbers.{SheetFault}
 use Rattle.commands.specs.declared.reader.Reader.{Reader}
 use Rattle.sheet.specs.declared.command.Command.{Command}
 use Rattle.sheet.specs.declared.letter.Letter.{Letter}
@@ -36,9 +35,6 @@ module _ (total : ℕ) (rest : List ℕ) (s : SoFar) where
   pub turn_misplaced : (g : Stage) (c : SheetCause) → 0 < length rest → s.stage ≡ g → takes g (get_or rest 0 0) ≡ false → c ≡ OutOfPlace → turn total rest s ≡ stops (fault c (total - length rest))
   turn_misplaced g c l e f h = rw h (turn_place l (rw e f))
 
-  turn_front : (g : Stage) (l : Letter) (o : Option (Command × Reader)) → 0 < length rest → s.stage ≡ g → takes g (get_or rest 0 0) ≡ true → byte_of l ≡ get_or rest 0 0 → parsed o ≡ front_by l rest → turn total rest s ≡ goes_on (total - length rest) s (ok_or o (fault RanOut total))
+  pub turn_front : (g : Stage) (l : Letter) (o : Option (Command × Reader)) → 0 < length rest → s.stage ≡ g → takes g (get_or rest 0 0) ≡ true → byte_of l ≡ get_or rest 0 0 → parsed o ≡ front_by l rest → turn total rest s ≡ goes_on (total - length rest) s (ok_or o (fault RanOut total))
   turn_front g l None some e f b h = turn_broken some (rw e f) (front_is rest l b ∙ sym h)
   turn_front g l (Some p) some e f b h = turn_taken some (rw e f) (said p.0) p.1.rest.now (front_is rest l b ∙ sym h)
-
-  pub turn_on : (r : Result (Command × Reader) SheetFault) (g : Stage) (l : Letter) (o : Option (Command × Reader)) → r ≡ ok_or o (fault RanOut total) → parsed o ≡ front_by l rest → byte_of l ≡ get_or rest 0 0 → 0 < length rest → s.stage ≡ g → takes g (get_or rest 0 0) ≡ true → turn total rest s ≡ goes_on (total - length rest) s r
-  turn_on r g l o is h b some e f = rw is (turn_front g l o some e f b h)

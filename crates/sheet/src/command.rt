@@ -1,5 +1,5 @@
 ghost use Rattle.std.specs.Prelude.{◌≡◌, ◌<◌, length, IfSome};
-ghost use Rattle.sheet.specs.Commands.{parsed, front_by};
+ghost use Rattle.sheet.specs.Commands.{said, WholeName, parsed, front_by};
 
 use crate::letter::Letter;
 use commands::Reader;
@@ -25,6 +25,7 @@ pub enum Command<'a> {
 // The command with this letter at the front, and the reader past it. None where its bytes run out.
 pub(crate) fn front<'a>(letter: Letter, reader: Reader<'a>) -> Option<(Command<'a>, Reader<'a>)>
     ensures command { parsed result ≡ front_by letter reader.entry.rest.now }
+    ensures whole { IfSome result (λ p. WholeName (said p.0)) }
     ensures total { IfSome result (λ p. p.1.total ≡ reader.entry.total) }
     ensures shorter { IfSome result (λ p. length p.1.rest.now < length reader.entry.rest.now) }
 {

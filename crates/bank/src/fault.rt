@@ -1,8 +1,9 @@
 // What a bank refuses, and what a caller is told of it.
 ghost use Rattle.std.specs.Prelude.{◌≡◌, Some};
+ghost use Rattle.refusal.specs.declared.refusal.Layer.TheVariants.{Bank};
 ghost use Rattle.bank.specs.Faults.{number_of, refusal_of, line_of};
 
-use refusal::{Layer, Refusal};
+use refusal::{Cause, Layer, Refusal, Refused};
 use std::fmt;
 
 // Where several apply to one call, the one with the lowest number is told; a load tells
@@ -25,10 +26,16 @@ pub enum BankFault {
     OutsideLimits,
 }
 
-impl BankFault {
-    fn number(&self) -> u8
-        ensures { result ≡ number_of self.now }
-    {
+impl Cause for BankFault {
+    ghost told_by = { Bank };
+
+    ghost told_as = { number_of };
+
+    fn layer() -> Layer {
+        Layer::Bank
+    }
+
+    fn number(&self) -> u8 {
         match self {
             BankFault::NoSuchBlock => 30,
             BankFault::DiskBusy => 31,
@@ -39,16 +46,18 @@ impl BankFault {
             BankFault::OutsideLimits => 36,
         }
     }
+}
 
+impl BankFault {
+    // Every fault of a bank has place 0.
     pub fn refusal(&self) -> Refusal
         ensures { result ≡ refusal_of self.now }
     {
-        let number = self.number();
-        Refusal {
-            number,
-            layer: Layer::Bank,
+        Refused {
+            cause: *self,
             place: 0,
         }
+        .refusal()
     }
 }
 

@@ -1,5 +1,6 @@
 mod ArrayLoads
 mod Blind
+mod Chunks
 mod Fetches
 mod Loads
 mod OnMeaning

@@ -7,7 +7,7 @@ use Rattle.std.proofs.lemmas.List.{get_or-take, get_or-drop, get_or_append_left,
 use Rattle.std.proofs.lemmas.Bool.{cond-true, cond-false, lt-ltb, le-ltb, cases_lt}
 use Rattle.bank.specs.declared.layout.Layout.{Layout}
 use Rattle.bank.specs.Array.{spread}
-use Rattle.bank.specs.ArraySound.{length_spread, get_or_spread}
+use Rattle.bank.specs.ArraySound.{length_spread, get_or_spread, length_restored_block}
 use Rattle.bank.specs.Parity.{rows_of, byte_of, place_byte, place_folded, restored_byte, restored_block}
 use Rattle.bank.specs.Recording.{block_at}
 
@@ -50,6 +50,14 @@ pub get_or_restored : (bytes : List ℕ) (l : Layout) (r i : ℕ) → i < 512 �
 unfolding restored_block
 get_or_restored bytes l r i h = get_or-map-range_with_len (λ k. restored_byte bytes l r k l.disks) 0 512 i i 0 h (omega arith)
 
+-- what is folded in over all places is the restored block
+pub restored_is :
+    (bytes : List ℕ) (l : Layout) (r j : ℕ) (block : List ℕ) → length block ≡ 512 → j ≡ l.disks → ((k : ℕ) → k < 512 → get_or block k 0 ≡ restored_byte bytes l r k j) → block ≡ restored_block bytes l r
+restored_is bytes l r j block size last each =
+    ext_get_or 0 block (restored_block bytes l r) (size ∙ sym (length_restored_block bytes l r)) (λ k h.
+    let byte : k < 512 = omega arith in
+    each k byte ∙ (ap (restored_byte bytes l r k) last ∙ sym (get_or_restored bytes l r k byte)))
+
 -- a block's row is one of the rows
 pub row_below : (l : Layout) (b : ℕ) → 0 < l.disks → b < l.blocks → b / l.disks < rows_of l
 row_below l b some h =
@@ -70,21 +78,3 @@ spread_disk l b = by_end (cases_lt b l.blocks)
         cond-true _ _ _ (lt-ltb _ _ h)
         ∙ (ap Some (sym (get_or_spread l b h)) ∙ sym (cond-true _ _ _ (lt-ltb b (length (spread l)) (omega (arith, count)))))
     by_end (inr h) = cond-false _ _ _ (le-ltb _ _ h) ∙ sym (cond-false _ _ _ (le-ltb b (length (spread l)) (omega (arith, count))))
-
--- past a block that was put first, a buffer is as it was
-pub beyond_block : (block was : List ℕ) → length block ≡ 512 → (k : ℕ) → 512 ≤ k → get_or (block ++ drop 512 was) k 0 ≡ get_or was k 0
-beyond_block block was size k h =
-    let back : 512 + (k - 512) ≡ k = omega arith in
-    get_or-append_right block (drop 512 was) 512 k 0 size h
-    ∙ (get_or-drop 512 was (k - 512) 0 ∙ ap (λ n. get_or was n 0) back)
-
--- a buffer is told by its first 512 bytes and by what lies past them
-pub buffer_is :
-    (block was then : List ℕ) → length block ≡ 512 → 512 ≤ length was → length then ≡ length was → ((k : ℕ) → k < 512 → get_or then k 0 ≡ get_or block k 0) → ((k : ℕ) → 512 ≤ k → get_or then k 0 ≡ get_or was k 0) → then ≡ block ++ drop 512 was
-buffer_is block was then size room same first rest =
-    let sizes : length then ≡ length (block ++ drop 512 was) = simp (length-append, length-drop) (omega arith) in
-    ext_get_or 0 then (block ++ drop 512 was) sizes (λ i h. by_place i (cases_lt i 512))
-  where
-    by_place : (i : ℕ) → (i < 512) ⊎ (512 ≤ i) → get_or then i 0 ≡ get_or (block ++ drop 512 was) i 0
-    by_place i (inl h) = first i h ∙ sym (get_or_append_left block (drop 512 was) 0 i (omega arith))
-    by_place i (inr h) = rest i h ∙ sym (beyond_block block was size i h)

@@ -14,5 +14,6 @@ pub mod Rebuilt
 pub mod Recording
 pub mod RecordingLoad
 pub mod RecordingSound
+pub mod Stored
 pub mod Ticking
 pub mod Undamaged

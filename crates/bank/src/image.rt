@@ -1,17 +1,45 @@
 // The image bank: blocks as they stand in a recording, with a list that gives each block's disk.
-ghost use Rattle.std.specs.Prelude.{◌≡◌, ℕ, ◌*◌, ◌<◌, length, slice_index};
+ghost use Rattle.std.specs.Prelude.{◌≡◌, ℕ, ◌*◌, ◌<◌, ◌≤◌, length, slice_index};
+ghost use Rattle.bank.specs.Meaning.{all_idle};
+ghost use Rattle.bank.specs.Recording.{blocks_of};
+ghost use Rattle.bank.specs.RecordingSound.{recorded_sound};
+ghost use Rattle.bank.specs.Stored.{length_all_idle};
 
-use crate::drives::Drives;
+use crate::copy::block_of;
+use crate::disk_bank::DiskBank;
+use crate::limits::BLOCK;
+use crate::store::Store;
 
 mod load;
-mod serve;
+
+pub type ImageBank<'a> = DiskBank<Recording<'a>>;
 
 #[derive(Drop)]
-pub struct ImageBank<'a> {
-    recording: &'a [u8],
+pub struct Recording<'a> {
+    bytes: &'a [u8],
     disks: &'a [u8],
-    drives: Drives,
-    ghost counted: { drives.blocks ≡ length disks.now },
+    ghost few: { length disks.now ≤ 1024 },
     ghost placed: { (b : ℕ) → b < length disks.now → slice_index disks.now b < 8 },
-    ghost matched: { length recording.now ≡ 512 * length disks.now },
+    ghost matched: { length bytes.now ≡ 512 * length disks.now },
+}
+
+impl Store for Recording<'_> {
+    ghost contents = { λ r. blocks_of r.bytes.now (length r.disks.now) };
+
+    ghost places = { λ r. r.disks.now };
+
+    ghost sound_at_rest = { λ r. recorded_sound r.bytes.now r.disks.now 0 all_idle length_all_idle r.matched r.placed };
+
+    fn blocks(&self) -> u16 {
+        self.disks.len() as u16
+    }
+
+    fn disk(&self, block: u16) -> Option<u8> {
+        self.disks.get(usize::from(block)).copied()
+    }
+
+    #[tactic(auto, using(crate::specs::RecordingSound::get_or_blocks_of))]
+    fn block(&self, block: u16) -> [u8; BLOCK] {
+        *block_of(self.bytes, usize::from(block))
+    }
 }

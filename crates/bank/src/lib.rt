@@ -4,15 +4,16 @@
 
 mod bank;
 mod copy;
+mod disk_bank;
 mod drives;
 mod fault;
 mod fetch;
 mod image;
 mod layout;
 mod limits;
-mod parity;
 mod rebuilt;
 mod state;
+mod store;
 
 pub use bank::Bank;
 pub use fault::BankFault;

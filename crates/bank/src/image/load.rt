@@ -5,34 +5,37 @@ ghost use Rattle.bank.specs.Limits.{all_below};
 ghost use Rattle.bank.specs.Meaning.{empty_bank};
 ghost use Rattle.bank.specs.RecordingLoad.{recording_limits, recording_answer, recording_loaded};
 
-use crate::drives::Drives;
+use crate::disk_bank::DiskBank;
 use crate::fault::BankFault;
-use crate::image::ImageBank;
-use crate::limits::{BLOCK, DISKS, MOST_BLOCKS, fetch_fits};
+use crate::image::{ImageBank, Recording};
+use crate::limits::{BLOCK, DISKS, count_fits, fetch_fits};
 
-impl<'a> ImageBank<'a> {
+impl<'a> DiskBank<Recording<'a>> {
     // A bank that holds nothing.
     pub fn empty() -> ImageBank<'a>
         ensures { image_meaning result ≡ empty_bank }
     {
-        ImageBank {
-            recording: &[],
+        let nothing = Recording {
+            bytes: &[],
             disks: &[],
-            drives: Drives::new(0, 0),
-        }
+        };
+        DiskBank::new(nothing, 0)
     }
 
     // Holds the recording from now on, with one disk byte for each block and all disks idle. After a refusal
     // the bank is empty.
+    #[tactic(auto, using(crate::proofs::Loads::granted_few, crate::proofs::Loads::granted_placed, crate::proofs::Loads::granted_matched, crate::proofs::Loads::granted_loaded, crate::proofs::Loads::refused_empty))]
     pub fn load(&mut self, recording: &'a [u8], disks: &'a [u8], fetch: u8) -> Result<(), BankFault>
         ensures answer { result ≡ recording_answer recording.now disks.now fetch }
         ensures after { image_meaning self.new ≡ recording_loaded recording.now disks.now fetch }
     {
         *self = ImageBank::empty();
         judge(recording, disks, fetch)?;
-        self.recording = recording;
-        self.disks = disks;
-        self.drives = Drives::new(disks.len() as u16, fetch);
+        let store = Recording {
+            bytes: recording,
+            disks,
+        };
+        *self = DiskBank::new(store, fetch);
         Ok(())
     }
 }
@@ -49,21 +52,17 @@ fn judge(recording: &[u8], disks: &[u8], fetch: u8) -> Result<(), BankFault>
     Ok(())
 }
 
+#[tactic(auto, unfolding(crate::specs::RecordingLoad::recording_limits))]
 fn within_limits(disks: &[u8], fetch: u8) -> bool
     ensures value { result ≡ recording_limits disks.now fetch }
     ensures few { result ≡ true → length disks.now ≤ 1024 }
 {
-    1 <= disks.len() && disks.len() <= MOST_BLOCKS && fetch_fits(fetch) && all_placed(disks)
+    count_fits(disks.len()) && fetch_fits(fetch) && all_placed(disks)
 }
 
 // Whether each block's disk is one of the eight.
 fn all_placed(disks: &[u8]) -> bool
     ensures { result ≡ all_below 8 disks.now }
 {
-    for disk in disks {
-        if usize::from(*disk) >= DISKS {
-            return false;
-        }
-    }
-    true
+    disks.iter().all(|&disk| usize::from(disk) < DISKS)
 }

@@ -8,13 +8,13 @@ ghost use Rattle.bank.specs.Rebuilt.{rebuilt_meaning};
 ghost use Rattle.bank.specs.RecordingLoad.{recording_loaded};
 ghost use Rattle.bank.specs.Undamaged.{SameButLost, LeftOf, with_parity};
 
-use crate::drives::Drives;
+use crate::disk_bank::DiskBank;
 use crate::fault::BankFault;
 use crate::layout::Layout;
-use crate::limits::{BLOCK, DISKS, MOST_BLOCKS, fetch_fits};
-use crate::rebuilt::RebuiltBank;
+use crate::limits::{BLOCK, DISKS, count_fits, fetch_fits};
+use crate::rebuilt::{Array, RebuiltBank};
 
-impl<'a> RebuiltBank<'a> {
+impl<'a> DiskBank<Array<'a>> {
     // A bank that holds nothing.
     pub fn empty() -> RebuiltBank<'a>
         ensures { rebuilt_meaning result ≡ empty_bank }
@@ -24,16 +24,14 @@ impl<'a> RebuiltBank<'a> {
             disks: 1,
             lost: 0,
         };
-        RebuiltBank {
-            image: &[],
-            layout,
-            drives: Drives::new(0, 0),
-        }
+        let nothing = Array { image: &[], layout };
+        DiskBank::new(nothing, 0)
     }
 
     // Holds from now on what the image has left of an array, all disks idle. After a refusal the bank is empty.
     // What stands in the image for the lost disk's blocks makes no difference. Where the image is what is left of a
     // recording and its parity is right, this is the bank that the recording itself makes, whichever disk is lost.
+    #[tactic(auto, using(crate::proofs::ArrayLoads::granted_limits, crate::proofs::ArrayLoads::limits_some, crate::proofs::ArrayLoads::limits_eight, crate::proofs::ArrayLoads::granted_matched, crate::proofs::ArrayLoads::granted_loaded, crate::proofs::ArrayLoads::refused_empty, crate::proofs::Blind::same_loaded, crate::proofs::SameBank::same_bank, crate::proofs::Whole::whole_left))]
     pub fn load(&mut self, image: &'a [u8], layout: Layout, fetch: u8) -> Result<(), BankFault>
         ensures answer { result ≡ array_answer image.now layout fetch }
         ensures after { rebuilt_meaning self.new ≡ array_loaded image.now layout fetch }
@@ -43,13 +41,12 @@ impl<'a> RebuiltBank<'a> {
     {
         *self = RebuiltBank::empty();
         judge(image, layout, fetch)?;
-        self.image = image;
-        self.layout = layout;
-        self.drives = Drives::new(layout.blocks, fetch);
+        *self = DiskBank::new(Array { image, layout }, fetch);
         Ok(())
     }
 }
 
+#[tactic(auto, using(crate::proofs::ArrayLoads::limits_some), unfolding(crate::specs::ArrayLoad::array_answer))]
 fn judge(image: &[u8], layout: Layout, fetch: u8) -> Result<(), BankFault>
     ensures { result ≡ array_answer image.now layout fetch }
 {
@@ -62,11 +59,11 @@ fn judge(image: &[u8], layout: Layout, fetch: u8) -> Result<(), BankFault>
     Ok(())
 }
 
+#[tactic(auto, unfolding(crate::specs::ArrayLoad::array_limits))]
 fn within_limits(layout: Layout, fetch: u8) -> bool
     ensures { result ≡ array_limits layout fetch }
 {
-    let blocks = usize::from(layout.blocks);
-    1 <= blocks && blocks <= MOST_BLOCKS && disks_fit(layout) && fetch_fits(fetch)
+    count_fits(usize::from(layout.blocks)) && disks_fit(layout) && fetch_fits(fetch)
 }
 
 fn disks_fit(layout: Layout) -> bool

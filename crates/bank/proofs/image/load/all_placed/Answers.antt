@@ -1,24 +1,16 @@
-use Rattle.std.proofs.Common.{get_or, sym, ◌∙◌, arith}
-use Rattle.std.proofs.lemmas.List.{at_drop_more, at_drop_all}
-use Rattle.std.proofs.lemmas.Bool.{and_left, le-ltb, lt-ltb}
+use Rattle.std.proofs.Common.{◌≡◌, ℕ, ltb, ◌&&◌, List, [], ◌∷◌, sym, refl, ap, ◌∙◌, rules, tests}
+use Rattle.std.specs.List.{list_all}
+use Rattle.std.proofs.lemmas.Iterator.{YieldsList-from_slice}
+use Rattle.std.proofs.lemmas.Iterator.Search.{all_from_yields_List}
 use Rattle.bank.specs.Limits.{all_below}
 use Rattle.bank.proofs.image.load.all_placed.Goals as goal
 
-pub returns-then-from-ge-DISKS : goal.returns-then-from-ge-DISKS
+all_below_is : (n : ℕ) (xs : List ℕ) → all_below n xs ≡ list_all (λ x. ltb x n) xs
 unfolding all_below
-returns-then-from-ge-DISKS c =
-    let i = c.loop-disk.disk-index in
-    let e = at_drop_more (all_below 8) c.args.disks.now i 0 c.loop-disk-test.true in
-    sym (sym c.loop-disk.invariant ∙ (e ∙ and_left _ _ (le-ltb (get_or c.args.disks.now i 0) 8 (omega arith))))
-
-pub loop-disk-preserved : goal.loop-disk-preserved
-unfolding all_below
-loop-disk-preserved c =
-    let i = c.loop-disk.disk-index in
-    let e = at_drop_more (all_below 8) c.args.disks.now i 0 c.loop-disk-test.true in
-    let t = lt-ltb (get_or c.args.disks.now i 0) 8 (omega arith) in
-    sym (rw t at e) ∙ c.loop-disk.invariant
+all_below_is n [] = refl
+all_below_is n (x ∷ xs) = ap (λ t. ltb x n && t) (all_below_is n xs)
 
 pub returns : goal.returns
-unfolding all_below
-returns c = sym (at_drop_all (all_below 8) c.args.disks.now c.loop-disk.disk-index c.loop-disk-test.false) ∙ c.loop-disk.invariant
+returns c =
+    all_from_yields_List (λ x. ltb x 8) _ _ _ c.all.ensures.ran (YieldsList-from_slice c.args.disks.now cc) (λ x b q k. search (rules, tests))
+    ∙ sym (all_below_is 8 c.args.disks.now)

@@ -1,0 +1,30 @@
+// What holds a bank's blocks.
+ghost use Rattle.std.specs.Prelude.{◌≡◌, ℕ, ◌<◌, List, [], length, if◌then◌else◌, Some, None, nat_lt, slice_index, slice_index_or};
+ghost use Rattle.bank.specs.Meaning.{Sound, all_idle};
+ghost use Rattle.bank.specs.Stored.{stored};
+
+use crate::limits::BLOCK;
+
+pub trait Store {
+    // each block's bytes, in number order
+    ghost contents: { Self → List (List ℕ) };
+
+    // each block's disk, in number order
+    ghost places: { Self → List ℕ };
+
+    // the bank that it makes is sound
+    ghost sound_at_rest: { (x : Self) → Sound (stored (contents x) (places x) 0 all_idle) };
+
+    // How many blocks there are.
+    fn blocks(&self) -> u16
+        ensures { result ≡ length (places self.now) };
+
+    // The disk that a block lies on, or none where there is no such block.
+    fn disk(&self, block: u16) -> Option<u8>
+        ensures { result ≡ (if nat_lt block (length (places self.now)) then Some (slice_index (places self.now) block) else None) };
+
+    // A block's bytes.
+    fn block(&self, block: u16) -> [u8; BLOCK]
+        requires { block < length (places self.now) }
+        ensures { result ≡ slice_index_or (contents self.now) block [] };
+}

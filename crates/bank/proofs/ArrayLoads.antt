@@ -52,3 +52,5 @@ pub refused_empty :
     (bytes : List ℕ) (l : Layout) (steps : ℕ) (f : BankFault) → array_answer bytes l steps ≡ Err f → empty_bank ≡ array_loaded bytes l steps
 unfolding array_loaded
 refused_empty bytes l steps f e = rw e
+
+pub ruleset array_loads = (granted_limits, limits_some, limits_eight, granted_matched, granted_loaded, refused_empty)

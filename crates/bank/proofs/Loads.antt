@@ -43,3 +43,5 @@ module _ (bytes places : List ℕ) (steps : ℕ) (e : recording_answer bytes pla
 pub refused_empty : (bytes places : List ℕ) (steps : ℕ) (f : BankFault) → recording_answer bytes places steps ≡ Err f → empty_bank ≡ recording_loaded bytes places steps
 unfolding recording_loaded
 refused_empty bytes places steps f e = rw e
+
+pub ruleset loads = (granted_few, granted_placed, granted_matched, granted_loaded, refused_empty)

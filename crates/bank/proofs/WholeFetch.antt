@@ -17,11 +17,6 @@ pub started_fetch : (m : Meaning) (b : ℕ) → (start_after m b).fetch ≡ m.fe
 unfolding start_after
 started_fetch m b = refl
 
--- a block that has no disk is refused
-pub start_no_block : (m : Meaning) (b : ℕ) → disk_of m b ≡ None → start_answer m b ≡ Err NoSuchBlock
-unfolding start_answer
-start_no_block m b none = ap (λ d. start_on d m.states) none
-
 -- a start that is refused ends it
 module _ (m : Meaning) (b : ℕ) (f : BankFault) (refused : start_answer m b ≡ Err f) where
   pub refused_answer : (room : ℕ) → Err f ≡ fetch_answer m b room
@@ -39,6 +34,21 @@ module _ (m : Meaning) (b : ℕ) (f : BankFault) (refused : start_answer m b ≡
   pub refused_bytes : (buffer : List ℕ) → buffer ≡ fetch_buffer m b buffer
   unfolding fetch_buffer fetch_answer
   refused_bytes buffer = rw refused
+
+-- a block that has no disk is refused
+module _ (m : Meaning) (b : ℕ) (none : disk_of m b ≡ None) where
+  start_no_block : start_answer m b ≡ Err NoSuchBlock
+  unfolding start_answer
+  start_no_block = ap (λ d. start_on d m.states) none
+
+  pub no_block_answer : (room : ℕ) → Err NoSuchBlock ≡ fetch_answer m b room
+  no_block_answer room = refused_answer m b NoSuchBlock start_no_block room
+
+  pub no_block_after : (room : ℕ) → m ≡ fetch_after m b room
+  no_block_after room = refused_after m b NoSuchBlock start_no_block room
+
+  pub no_block_bytes : (buffer : List ℕ) → buffer ≡ fetch_buffer m b buffer
+  no_block_bytes buffer = refused_bytes m b NoSuchBlock start_no_block buffer
 
 module _ (m : Meaning) (sound : Sound m) (b d : ℕ) (known : disk_of m b ≡ Some d) (started : start_answer m b ≡ Ok tt) where
   -- the disks when the fetch time has passed
@@ -100,3 +110,5 @@ module _ (m : Meaning) (sound : Sound m) (b d : ℕ) (known : disk_of m b ≡ So
       ap (λ z. collect_buffer z d buffer) ripe
       ∙ (ap (λ s. delivered m.blocks (ready s (length buffer)) buffer) lies_there
       ∙ (ripe_bytes t buffer ∙ ap (λ r. cond (is_ok (cond (is_ok r) (cond t (Err BufferTooShort) (Ok tt)) r)) (get_or m.blocks b [] ++ drop 512 buffer) buffer) (sym started)))
+
+pub ruleset whole_fetch = (no_block_answer, no_block_after, no_block_bytes, refused_answer, refused_start, refused_after, refused_bytes, started_fetch, whole_answer, whole_after, whole_bytes)

@@ -15,12 +15,14 @@ pub(crate) struct Drives {
     blocks: u16,
     fetch: u8,
     list: [DiskState; DISKS],
+    // what is shown of a bank as a value, outside any function, does not know the length from the array's type
     ghost eight: { length list ≡ 8 },
     ghost there: { all_fetch_below blocks list ≡ true },
 }
 
 impl Drives {
     // All idle.
+    #[tactic(auto, unfolding(crate::specs::Fetching::all_fetch_below, crate::specs::Meaning::all_idle))]
     pub(crate) fn new(blocks: u16, fetch: u8) -> Drives
         ensures { (result.blocks ≡ blocks) × ((result.fetch ≡ fetch) × (result.list ≡ all_idle)) }
     {
@@ -74,6 +76,7 @@ impl Drives {
         }
     }
 
+    #[tactic(auto, using(crate::proofs::Fetches::ticked_fetch_below))]
     pub(crate) fn tick(&mut self)
         ensures after { self.new.list ≡ lowered_all self.old.list }
         ensures same { Same self.old.blocks self.old.fetch self.new.blocks self.new.fetch }
@@ -82,6 +85,7 @@ impl Drives {
     }
 
     // The block that lies ready on the disk, for a buffer of `room` bytes; the disk is idle then.
+    #[tactic(auto, using(crate::proofs::Fetches::ready_below))]
     pub(crate) fn collect(&mut self, disk: u8, room: usize) -> Result<u16, BankFault>
         ensures answer { result ≡ ready (slice_index_or self.old.list disk Idle) room }
         ensures after { self.new.list ≡ (if is_ok result then slice_set self.old.list disk Idle else self.old.list) }
@@ -116,6 +120,7 @@ fn lies_ready(state: DiskState, room: usize) -> Result<u16, BankFault>
 }
 
 // Kept apart from `Drives`, whose invariant has to hold again only after the last disk.
+#[tactic(auto, unfolding(crate::specs::Ticking::lowered_all))]
 fn tick_each(states: &mut [DiskState])
     ensures { states.new ≡ lowered_all states.old }
 {

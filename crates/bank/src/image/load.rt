@@ -24,7 +24,7 @@ impl<'a> DiskBank<Recording<'a>> {
 
     // Holds the recording from now on, with one disk byte for each block and all disks idle. After a refusal
     // the bank is empty.
-    #[tactic(auto, using(crate::proofs::Loads::granted_few, crate::proofs::Loads::granted_placed, crate::proofs::Loads::granted_matched, crate::proofs::Loads::granted_loaded, crate::proofs::Loads::refused_empty))]
+    #[tactic(auto, using(crate::proofs::Loads::loads))]
     pub fn load(&mut self, recording: &'a [u8], disks: &'a [u8], fetch: u8) -> Result<(), BankFault>
         ensures answer { result ≡ recording_answer recording.now disks.now fetch }
         ensures after { image_meaning self.new ≡ recording_loaded recording.now disks.now fetch }

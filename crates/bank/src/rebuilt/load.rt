@@ -31,7 +31,7 @@ impl<'a> DiskBank<Array<'a>> {
     // Holds from now on what the image has left of an array, all disks idle. After a refusal the bank is empty.
     // What stands in the image for the lost disk's blocks makes no difference. Where the image is what is left of a
     // recording and its parity is right, this is the bank that the recording itself makes, whichever disk is lost.
-    #[tactic(auto, using(crate::proofs::ArrayLoads::granted_limits, crate::proofs::ArrayLoads::limits_some, crate::proofs::ArrayLoads::limits_eight, crate::proofs::ArrayLoads::granted_matched, crate::proofs::ArrayLoads::granted_loaded, crate::proofs::ArrayLoads::refused_empty, crate::proofs::Blind::same_loaded, crate::proofs::SameBank::same_bank, crate::proofs::Whole::whole_left))]
+    #[tactic(auto, using(crate::proofs::ArrayLoads::array_loads, crate::proofs::Blind::same_loaded))]
     pub fn load(&mut self, image: &'a [u8], layout: Layout, fetch: u8) -> Result<(), BankFault>
         ensures answer { result ≡ array_answer image.now layout fetch }
         ensures after { rebuilt_meaning self.new ≡ array_loaded image.now layout fetch }

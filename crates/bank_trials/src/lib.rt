@@ -2,9 +2,6 @@
 
 #![tactic(auto)]
 
-mod reads;
 mod recording;
 #[cfg(test)]
 mod tests;
-
-pub use reads::{read_image, read_rebuilt};

@@ -21,14 +21,11 @@ pub(crate) fn recorded_byte(block: usize, i: usize) -> u8 {
 }
 
 fn parity_byte(row: usize, i: usize) -> u8 {
-    let mut parity = 0;
-    for place in 0..usize::from(DISKS) {
-        let block = row.wrapping_mul(usize::from(DISKS)).wrapping_add(place);
-        if block < usize::from(BLOCKS) {
-            parity ^= recorded_byte(block, i);
-        }
-    }
-    parity
+    let first = row.wrapping_mul(usize::from(DISKS));
+    (0..usize::from(DISKS))
+        .map(|place| first.wrapping_add(place))
+        .filter(|&block| block < usize::from(BLOCKS))
+        .fold(0, |parity, block| parity ^ recorded_byte(block, i))
 }
 
 fn image_byte(block: usize, i: usize, lost: u8) -> u8 {
@@ -43,28 +40,29 @@ fn image_byte(block: usize, i: usize, lost: u8) -> u8 {
 }
 
 pub(crate) fn fill_recording(bytes: &mut [u8]) {
-    for at in 0..bytes.len() {
-        bytes[at] = recorded_byte(at / BLOCK, at % BLOCK);
-    }
+    fill(bytes, recorded_byte);
 }
 
 pub(crate) fn fill_image(bytes: &mut [u8], lost: u8) {
-    for at in 0..bytes.len() {
-        bytes[at] = image_byte(at / BLOCK, at % BLOCK, lost);
+    fill(bytes, |block, i| image_byte(block, i, lost));
+}
+
+// Each byte by its block and its place in the block.
+fn fill<F: Fn(usize, usize) -> u8>(bytes: &mut [u8], byte_at: F)
+    requires { F.IsAlwaysCallable byte_at }
+{
+    for (at, byte) in bytes.iter_mut().enumerate() {
+        *byte = byte_at(at / BLOCK, at % BLOCK);
     }
 }
 
 // Whether the buffer begins with the recorded block and ends as it was filled.
 pub(crate) fn holds(buffer: &[u8], block: u16, filled: u8) -> bool {
-    for (i, byte) in buffer.iter().enumerate() {
-        let expected = if i < BLOCK {
+    buffer.iter().enumerate().all(|(i, &byte)| {
+        byte == if i < BLOCK {
             recorded_byte(usize::from(block), i)
         } else {
             filled
-        };
-        if *byte != expected {
-            return false;
         }
-    }
-    true
+    })
 }

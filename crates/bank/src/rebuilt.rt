@@ -39,9 +39,14 @@ impl Store for Array<'_> {
         self.layout.blocks
     }
 
-    #[tactic(auto, using(crate::proofs::Places::spread_disk))]
+    #[tactic(auto, using(crate::specs::ArraySound::length_spread, crate::specs::ArraySound::get_or_spread, std::proofs::lemmas::Nat::mod_below))]
     fn disk(&self, block: u16) -> Option<u8> {
-        self.layout.disk(block)
+        let layout = self.layout;
+        if block < layout.blocks {
+            u8::try_from(block % u16::from(layout.disks)).ok()
+        } else {
+            None
+        }
     }
 
     // As it stands in the image, or rebuilt where it lay on the lost disk.

@@ -1,5 +1,5 @@
 -- What a granted load of an array tells.
-use Rattle.std.proofs.Common.{◌≡◌, ℕ, ◌+◌, ◌-◌, ◌*◌, ◌<◌, ◌≤◌, true, List, length, Ok, Err, div-le_self, arith}
+use Rattle.std.proofs.Common.{◌≡◌, ℕ, ◌+◌, ◌*◌, ◌<◌, ◌≤◌, true, List, length, Ok, Err, arith}
 use Rattle.std.proofs.lemmas.Bool.{and_parts, leb-true}
 use Rattle.std.proofs.lemmas.Bool.Decides.{nat_tests}
 use Rattle.bank.specs.declared.fault.BankFault.{BankFault}
@@ -9,9 +9,6 @@ use Rattle.bank.specs.ArrayLoad.{disks_within, array_limits, array_answer, array
 use Rattle.bank.specs.Limits.{count_within, fetch_within}
 use Rattle.bank.specs.Meaning.{all_idle, empty_bank}
 use Rattle.bank.specs.Parity.{rows_of}
-
-pub rows_few : (l : Layout) → rows_of l ≤ l.blocks + l.disks
-rows_few l = let h = div-le_self (l.blocks + (l.disks - 1)) l.disks in omega arith
 
 module _ (l : Layout) (steps : ℕ) (e : array_limits l steps ≡ true) where
   pub limits_count : count_within l.blocks ≡ true

@@ -5,12 +5,7 @@ use Rattle.std.proofs.lemmas.Bool.Decides.{nat_tests}
 use Rattle.bank.specs.declared.state.DiskState.{DiskState}
 use Rattle.bank.specs.declared.state.DiskState.TheVariants.{Idle, Busy}
 use Rattle.bank.specs.Fetching.{fetches_below, all_fetch_below, ready}
-use Rattle.bank.specs.Meaning.{all_idle}
 use Rattle.bank.specs.Ticking.{lowered, lowered_all}
-
-pub idle_fetch_below : (n : ℕ) → all_fetch_below n all_idle ≡ true
-unfolding all_fetch_below all_idle
-idle_fetch_below n = refl
 
 pub set_fetch_below :
     (n : ℕ) (ss : List DiskState) (d : ℕ) (s : DiskState) → all_fetch_below n ss ≡ true → fetches_below n s ≡ true → all_fetch_below n (set ss d s) ≡ true

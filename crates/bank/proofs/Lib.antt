@@ -3,7 +3,6 @@ mod Blind
 mod Chunks
 mod Fetches
 mod Loads
-mod OnMeaning
 mod Places
 mod Recovery
 mod SameBank

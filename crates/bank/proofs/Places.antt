@@ -1,13 +1,12 @@
 -- The places of a row, and what is folded together over them.
-use Rattle.std.proofs.Common.{◌≡◌, ℕ, ◌+◌, ◌-◌, ◌*◌, ◌/◌, ◌%◌, ◌<◌, ◌≤◌, Bool, true, false, cond, eqb, ltb, ◌⊎◌, List, ◌++◌, length, get_or, drop, Some, None, sym, refl, ap, ◌∙◌, inl, inr, add-mul, one-mul, add-one, arith}
+use Rattle.std.proofs.Common.{◌≡◌, ℕ, ◌+◌, ◌-◌, ◌*◌, ◌/◌, ◌%◌, ◌<◌, ◌≤◌, Bool, true, false, cond, eqb, ltb, ◌⊎◌, List, length, get_or, drop, sym, refl, ap, ◌∙◌, inl, inr, add-mul, one-mul, add-one, arith}
 use lib.Bits.{bit_xor, xor_zero_r}
 use Rattle.std.proofs.lemmas.Nat.{div-add-mod', le-div, mod-mul-add}
 use Rattle.std.proofs.lemmas.List.FromFn.{get_or-map-range_with_len}
-use Rattle.std.proofs.lemmas.List.{get_or-take, get_or-drop, get_or_append_left, get_or-append_right, length-append, length-drop, ext_get_or}
+use Rattle.std.proofs.lemmas.List.{get_or-take, get_or-drop, ext_get_or}
 use Rattle.std.proofs.lemmas.Bool.{cond-true, cond-false, lt-ltb, le-ltb, cases_lt}
 use Rattle.bank.specs.declared.layout.Layout.{Layout}
-use Rattle.bank.specs.Array.{spread}
-use Rattle.bank.specs.ArraySound.{length_spread, get_or_spread, length_restored_block}
+use Rattle.bank.specs.ArraySound.{length_restored_block}
 use Rattle.bank.specs.Parity.{rows_of, byte_of, place_byte, place_folded, restored_byte, restored_block}
 use Rattle.bank.specs.Recording.{block_at}
 
@@ -65,16 +64,3 @@ row_below l b some h =
     let e : (b / l.disks + 1) * l.disks ≡ b / l.disks * l.disks + l.disks = simp (add-mul, one-mul) in
     let k : b / l.disks + 1 ≤ (l.blocks + (l.disks - 1)) / l.disks = le-div (b / l.disks + 1) (l.blocks + (l.disks - 1)) l.disks some (omega arith) in
     omega arith
-
--- where a block lies, told by the list and told by its number
-pub spread_disk : (l : Layout) (b : ℕ) → cond (ltb b l.blocks) (Some (b % l.disks)) None ≡ cond (ltb b (length (spread l))) (Some (get_or (spread l) b 0)) None
-spread_disk l b = by_end (cases_lt b l.blocks)
-  where
-    count : length (spread l) ≡ l.blocks
-    count = length_spread l
-
-    by_end : (b < l.blocks) ⊎ (l.blocks ≤ b) → cond (ltb b l.blocks) (Some (b % l.disks)) None ≡ cond (ltb b (length (spread l))) (Some (get_or (spread l) b 0)) None
-    by_end (inl h) =
-        cond-true _ _ _ (lt-ltb _ _ h)
-        ∙ (ap Some (sym (get_or_spread l b h)) ∙ sym (cond-true _ _ _ (lt-ltb b (length (spread l)) (omega (arith, count)))))
-    by_end (inr h) = cond-false _ _ _ (le-ltb _ _ h) ∙ sym (cond-false _ _ _ (le-ltb b (length (spread l)) (omega (arith, count))))

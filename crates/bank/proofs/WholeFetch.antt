@@ -1,6 +1,7 @@
 -- Start, the fetch time and collect, one after the other.
 use Rattle.std.proofs.Common.{◌≡◌, ℕ, ◌-◌, ◌<◌, Bool, true, false, cond, ltb, List, [], ◌++◌, map, length, get_or, drop, set, is_ok, Some, None, Ok, Err, sym, refl, ap, ◌∙◌, arith}
 use Rattle.std.proofs.lemmas.List.{get_or-set_same, set-set, map-set, length-map}
+use Rattle.std.proofs.lemmas.Bool.Decides.{nat_tests}
 use Rattle.bank.specs.declared.fault.BankFault.{BankFault}
 use Rattle.bank.specs.declared.fault.BankFault.TheVariants.{NoSuchBlock, BufferTooShort}
 use Rattle.bank.specs.declared.state.DiskState.{DiskState}
@@ -10,7 +11,10 @@ use Rattle.bank.specs.Fetched.{lessened, later, fetch_answer, fetch_after, fetch
 use Rattle.bank.specs.Fetching.{start_on, ready}
 use Rattle.bank.specs.Meaning.{Meaning, Sound, having}
 use Rattle.bank.specs.Questions.{disk_of}
-use Rattle.bank.proofs.OnMeaning.{disk_there}
+
+-- a block whose disk is known is there
+disk_there : (m : Meaning) (b d : ℕ) → disk_of m b ≡ Some d → (b < length m.disks) × (d ≡ get_or m.disks b 0)
+disk_there m b d e = grind (arith, nat_tests)
 
 -- a start leaves the fetch time as it is
 pub started_fetch : (m : Meaning) (b : ℕ) → (start_after m b).fetch ≡ m.fetch

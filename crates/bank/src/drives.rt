@@ -24,7 +24,9 @@ impl Drives {
     // All idle.
     #[tactic(auto, unfolding(crate::specs::Fetching::all_fetch_below, crate::specs::Meaning::all_idle))]
     pub(crate) fn new(blocks: u16, fetch: u8) -> Drives
-        ensures { (result.blocks ≡ blocks) × ((result.fetch ≡ fetch) × (result.list ≡ all_idle)) }
+        ensures blocks { result.blocks ≡ blocks }
+        ensures fetch { result.fetch ≡ fetch }
+        ensures idle { result.list ≡ all_idle }
     {
         let list = [DiskState::Idle; DISKS];
         Drives {

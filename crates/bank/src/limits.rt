@@ -12,11 +12,11 @@ const MOST_BLOCKS: usize = 1024;
 pub(crate) fn count_fits(blocks: usize) -> bool
     ensures { result ≡ count_within blocks }
 {
-    1 <= blocks && blocks <= MOST_BLOCKS
+    (1..=MOST_BLOCKS).contains(&blocks)
 }
 
 pub(crate) fn fetch_fits(fetch: u8) -> bool
     ensures { result ≡ fetch_within fetch }
 {
-    1 <= fetch && fetch <= 64
+    (1..=64).contains(&fetch)
 }

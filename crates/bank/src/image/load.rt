@@ -5,6 +5,7 @@ ghost use Rattle.bank.specs.Limits.{all_below};
 ghost use Rattle.bank.specs.Meaning.{empty_bank};
 ghost use Rattle.bank.specs.RecordingLoad.{recording_limits, recording_answer, recording_loaded};
 
+use crate::bank::Bank;
 use crate::disk_bank::DiskBank;
 use crate::fault::BankFault;
 use crate::image::{ImageBank, Recording};
@@ -28,6 +29,7 @@ impl<'a> DiskBank<Recording<'a>> {
     pub fn load(&mut self, recording: &'a [u8], disks: &'a [u8], fetch: u8) -> Result<(), BankFault>
         ensures answer { result ≡ recording_answer recording.now disks.now fetch }
         ensures after { image_meaning self.new ≡ recording_loaded recording.now disks.now fetch }
+        ensures told { ⟦<ImageBank<'a> as Bank>⟧.meaning self.new ≡ image_meaning self.new }
     {
         *self = ImageBank::empty();
         judge(recording, disks, fetch)?;

@@ -8,6 +8,7 @@ ghost use Rattle.bank.specs.Rebuilt.{rebuilt_meaning};
 ghost use Rattle.bank.specs.RecordingLoad.{recording_loaded};
 ghost use Rattle.bank.specs.Undamaged.{SameButLost, LeftOf, with_parity};
 
+use crate::bank::Bank;
 use crate::disk_bank::DiskBank;
 use crate::fault::BankFault;
 use crate::layout::Layout;
@@ -35,6 +36,7 @@ impl<'a> DiskBank<Array<'a>> {
     pub fn load(&mut self, image: &'a [u8], layout: Layout, fetch: u8) -> Result<(), BankFault>
         ensures answer { result ≡ array_answer image.now layout fetch }
         ensures after { rebuilt_meaning self.new ≡ array_loaded image.now layout fetch }
+        ensures told { ⟦<RebuiltBank<'a> as Bank>⟧.meaning self.new ≡ rebuilt_meaning self.new }
         ensures blind { (other : List ℕ) → SameButLost image.now other layout → rebuilt_meaning self.new ≡ array_loaded other layout fetch }
         ensures recovers { (recording : List ℕ) → result ≡ Ok tt → LeftOf recording image.now layout → rebuilt_meaning self.new ≡ recording_loaded recording (spread layout) fetch }
         ensures whole { (recording : List ℕ) → result ≡ Ok tt → length recording ≡ 512 * layout.blocks → image.now ≡ with_parity recording layout → rebuilt_meaning self.new ≡ recording_loaded recording (spread layout) fetch }
@@ -69,7 +71,7 @@ fn within_limits(layout: Layout, fetch: u8) -> bool
 fn disks_fit(layout: Layout) -> bool
     ensures { result ≡ disks_within layout }
 {
-    1 <= layout.disks && usize::from(layout.disks) <= DISKS && layout.lost < layout.disks
+    (1..=DISKS).contains(&usize::from(layout.disks)) && layout.lost < layout.disks
 }
 
 // How many rows the blocks fill, the last one perhaps in part.

@@ -95,10 +95,8 @@ impl Drives {
         ensures same { Same self.old.blocks self.old.fetch self.new.blocks self.new.fetch }
     {
         let place = usize::from(disk);
-        if place >= DISKS {
-            return Err(BankFault::NothingToCollect);
-        }
-        let block = lies_ready(self.list[place], room)?;
+        let state = self.list.get(place).copied().unwrap_or(DiskState::Idle);
+        let block = lies_ready(state, room)?;
         self.list[place] = DiskState::Idle;
         Ok(block)
     }

@@ -1,4 +1,4 @@
-// What holds a bank's blocks.
+// What holds a bank's blocks and knows the disk of each. Only this crate makes and asks stores.
 ghost use Rattle.std.specs.Prelude.{◌≡◌, ℕ, ◌<◌, List, [], length, if◌then◌else◌, Some, None, nat_lt, slice_index, slice_index_or};
 ghost use Rattle.bank.specs.Meaning.{Sound, all_idle};
 ghost use Rattle.bank.specs.Stored.{stored};
@@ -23,7 +23,7 @@ pub trait Store {
     fn disk(&self, block: u16) -> Option<u8>
         ensures { result ≡ (if nat_lt block (length (places self.now)) then Some (slice_index (places self.now) block) else None) };
 
-    // A block's bytes.
+    // A block's bytes, by value: a buffer of the caller's would have to be asked for its length.
     fn block(&self, block: u16) -> [u8; BLOCK]
         requires { block < length (places self.now) }
         ensures { result ≡ slice_index_or (contents self.now) block [] };

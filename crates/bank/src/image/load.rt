@@ -29,6 +29,7 @@ impl<'a> DiskBank<Recording<'a>> {
     pub fn load(&mut self, recording: &'a [u8], disks: &'a [u8], fetch: u8) -> Result<(), BankFault>
         ensures answer { result ≡ recording_answer recording.now disks.now fetch }
         ensures after { image_meaning self.new ≡ recording_loaded recording.now disks.now fetch }
+        // what the calls of a bank speak of is this meaning
         ensures told { ⟦<ImageBank<'a> as Bank>⟧.meaning self.new ≡ image_meaning self.new }
     {
         *self = ImageBank::empty();
@@ -42,24 +43,18 @@ impl<'a> DiskBank<Recording<'a>> {
     }
 }
 
+// Limits are told before lengths.
+#[tactic(auto, unfolding(crate::specs::RecordingLoad::recording_limits))]
 fn judge(recording: &[u8], disks: &[u8], fetch: u8) -> Result<(), BankFault>
     ensures { result ≡ recording_answer recording.now disks.now fetch }
 {
-    if !within_limits(disks, fetch) {
+    if !(count_fits(disks.len()) && fetch_fits(fetch) && all_placed(disks)) {
         return Err(BankFault::OutsideLimits);
     }
     if recording.len() != BLOCK * disks.len() {
         return Err(BankFault::LengthsDiffer);
     }
     Ok(())
-}
-
-#[tactic(auto, unfolding(crate::specs::RecordingLoad::recording_limits))]
-fn within_limits(disks: &[u8], fetch: u8) -> bool
-    ensures value { result ≡ recording_limits disks.now fetch }
-    ensures few { result ≡ true → length disks.now ≤ 1024 }
-{
-    count_fits(disks.len()) && fetch_fits(fetch) && all_placed(disks)
 }
 
 // Whether each block's disk is one of the eight.

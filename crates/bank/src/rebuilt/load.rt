@@ -36,6 +36,7 @@ impl<'a> DiskBank<Array<'a>> {
     pub fn load(&mut self, image: &'a [u8], layout: Layout, fetch: u8) -> Result<(), BankFault>
         ensures answer { result ≡ array_answer image.now layout fetch }
         ensures after { rebuilt_meaning self.new ≡ array_loaded image.now layout fetch }
+        // what the calls of a bank speak of is this meaning
         ensures told { ⟦<RebuiltBank<'a> as Bank>⟧.meaning self.new ≡ rebuilt_meaning self.new }
         ensures blind { (other : List ℕ) → SameButLost image.now other layout → rebuilt_meaning self.new ≡ array_loaded other layout fetch }
         ensures recovers { (recording : List ℕ) → result ≡ Ok tt → LeftOf recording image.now layout → rebuilt_meaning self.new ≡ recording_loaded recording (spread layout) fetch }
@@ -48,24 +49,18 @@ impl<'a> DiskBank<Array<'a>> {
     }
 }
 
-#[tactic(auto, using(crate::proofs::ArrayLoads::limits_some), unfolding(crate::specs::ArrayLoad::array_answer))]
+// Limits are told before lengths.
+#[tactic(auto, using(crate::proofs::ArrayLoads::limits_some), unfolding(crate::specs::ArrayLoad::array_limits, crate::specs::ArrayLoad::array_answer))]
 fn judge(image: &[u8], layout: Layout, fetch: u8) -> Result<(), BankFault>
     ensures { result ≡ array_answer image.now layout fetch }
 {
-    if !within_limits(layout, fetch) {
+    if !(count_fits(usize::from(layout.blocks)) && disks_fit(layout) && fetch_fits(fetch)) {
         return Err(BankFault::OutsideLimits);
     }
     if image.len() != BLOCK * (usize::from(layout.blocks) + rows(layout)) {
         return Err(BankFault::LengthsDiffer);
     }
     Ok(())
-}
-
-#[tactic(auto, unfolding(crate::specs::ArrayLoad::array_limits))]
-fn within_limits(layout: Layout, fetch: u8) -> bool
-    ensures { result ≡ array_limits layout fetch }
-{
-    count_fits(usize::from(layout.blocks)) && disks_fit(layout) && fetch_fits(fetch)
 }
 
 fn disks_fit(layout: Layout) -> bool
@@ -79,6 +74,5 @@ fn rows(layout: Layout) -> usize
     requires { 0 < layout.disks }
     ensures { result ≡ rows_of layout }
 {
-    let disks = usize::from(layout.disks);
-    (usize::from(layout.blocks) + (disks - 1)) / disks
+    usize::from(layout.blocks).div_ceil(usize::from(layout.disks))
 }

@@ -14,7 +14,7 @@ use Rattle.model.proofs.Refused.{refuses_exactly}
 use Rattle.sheet.specs.declared.rack.Rack.{Rack}
 use Rattle.sheet.specs.Headers.{rack_of}
 use Rattle.plan.specs.declared.counts.Counts.{Counts}
-use Rattle.plan.specs.declared.fault.PlanFault.{PlanFault}
+use Rattle.plan.specs.Numbers.{PlanFault}
 use Rattle.plan.specs.Checks.{outcome_of, answer_of, ChecksExactly}
 use Rattle.plan.specs.Receipts.{says, holds}
 use Rattle.plan.specs.Steps.{verdict_for}

@@ -7,7 +7,7 @@ use Rattle.model.specs.declared.Exchange.{Exchange}
 use Rattle.model.specs.Verdict.{State, begin, Turn, Goes, Stops, finished, accepted, Outcome, Accepted, refused, verdict}
 use Rattle.model.proofs.Turns.{run_goes, run_stops, run_finishes}
 use Rattle.plan.specs.declared.counts.Counts.{Counts}
-use Rattle.plan.specs.declared.fault.PlanFault.{PlanFault}
+use Rattle.plan.specs.Numbers.{PlanFault}
 use Rattle.plan.specs.Checks.{outcome_of}
 use Rattle.plan.specs.Steps.{step_for, run_for, verdict_for, step_answer, step_left}
 

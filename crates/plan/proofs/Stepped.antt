@@ -3,14 +3,14 @@ use Rattle.std.proofs.Common.{◌≡◌, ℕ, ◌+◌, ◌-◌, ◌≤◌, Bool,
 use Rattle.std.proofs.lemmas.Bool.{leb-true, ltb-false, cases_Bool}
 use Rattle.model.specs.Sheet.{Sheet}
 use Rattle.model.specs.Timetable.{Side}
+use Rattle.model.specs.declared.Cause.{Cause}
 use Rattle.model.specs.declared.Cause.TheVariants.{RunsOut, OutOfPlace, OverLimit}
 use Rattle.model.specs.declared.Command.{Command}
 use Rattle.model.specs.declared.Command.TheVariants.{Opens, Trades, Serves, Waits, Ends}
 use Rattle.model.specs.declared.Phase.{Phase}
 use Rattle.model.specs.declared.Phase.TheVariants.{Filling, Standing, Starting, Over}
 use Rattle.model.specs.Verdict.{State, Found, Missing, Strange, Known, found, Test, test, Finding, Clean, Faulty, first, Turn, Goes, Stops, turn_by, tests_at, tests_of, size, in_place, is_over, within_limit, place_of, step, after}
-use Rattle.plan.specs.declared.fault.PlanFault.{PlanFault}
-use Rattle.plan.specs.declared.fault.Stop.{Stop}
+use Rattle.plan.specs.Numbers.{PlanFault}
 use Rattle.plan.specs.Admitted.{stray, admit_found, admitted, told_of}
 use Rattle.plan.specs.Steps.{step_for}
 use Rattle.plan.specs.Tracks.{tests_for, after_for}
@@ -19,8 +19,8 @@ module _ (side : Side) (sheet : Sheet) (room total : ℕ) (s : State) (rest : Li
   abbrev turned : Found → Finding → Turn
   turned f g = turn_by side sheet.rack.homes sheet.rack.frames sheet.rack.fetch sheet.requests room s total rest f g
 
-  abbrev stopped : Stop → Turn
-  stopped x = Stops x.cause (place_of x.cause total (total - length rest))
+  abbrev stopped : Cause → Turn
+  stopped x = Stops x (place_of x total (total - length rest))
 
   -- what follows from an admission, of whatever stands there
   pub record Lets (f : Found) (t : Turn) (c : Command) : Type 0 where
@@ -29,15 +29,15 @@ module _ (side : Side) (sheet : Sheet) (room total : ℕ) (s : State) (rest : Li
     pub there : size c ≤ length rest
     pub within : within_limit total (total - length rest) (size c) ≡ true
 
-  abbrev Gives : Found → Turn → Result Command Stop → Type 0
+  abbrev Gives : Found → Turn → Result Command Cause → Type 0
   Gives f t (Err x) = t ≡ stopped x
   Gives f t (Ok c) = Lets f t c
 
-  strays : (f : Found) (b : Bool) → turned f (first (test b OverLimit ∷ test false OutOfPlace ∷ [])) ≡ stopped (cond b (record { cause = OutOfPlace }) (record { cause = OverLimit }))
+  strays : (f : Found) (b : Bool) → turned f (first (test b OverLimit ∷ test false OutOfPlace ∷ [])) ≡ stopped (cond b OutOfPlace OverLimit)
   strays f true = refl
   strays f false = refl
 
-  knows : (c : Command) (w i z : Bool) → within_limit total (total - length rest) (size c) ≡ w → leb (size c) (length rest) ≡ z → Gives (Known c) (turned (Known c) (first (test w OverLimit ∷ test i OutOfPlace ∷ test z RunsOut ∷ tests_for side sheet room s c))) (cond w (cond i (cond z (Ok c) (Err (record { cause = RunsOut }))) (Err (record { cause = OutOfPlace }))) (Err (record { cause = OverLimit })))
+  knows : (c : Command) (w i z : Bool) → within_limit total (total - length rest) (size c) ≡ w → leb (size c) (length rest) ≡ z → Gives (Known c) (turned (Known c) (first (test w OverLimit ∷ test i OutOfPlace ∷ test z RunsOut ∷ tests_for side sheet room s c))) (cond w (cond i (cond z (Ok c) (Err RunsOut)) (Err OutOfPlace)) (Err OverLimit))
   knows c false i z e g = refl
   knows c true false z e g = refl
   knows c true true false e g = refl
@@ -61,7 +61,7 @@ module _ (side : Side) (sheet : Sheet) (room total : ℕ) (s : State) (rest : Li
   unfolding step
   gives = by_phase s.phase (found rest)
 
-  pub refused : (x : Stop) → Err x ≡ admitted s.phase (found rest) total (total - length rest) (length rest) → step_for side sheet room total s rest ≡ stopped x
+  pub refused : (x : Cause) → Err x ≡ admitted s.phase (found rest) total (total - length rest) (length rest) → step_for side sheet room total s rest ≡ stopped x
   refused x e = subst (Gives (found rest) (step_for side sheet room total s rest)) (sym e) gives
 
   pub lets : (c : Command) → Ok c ≡ admitted s.phase (found rest) total (total - length rest) (length rest) → Lets (found rest) (step_for side sheet room total s rest) c
@@ -70,16 +70,16 @@ module _ (side : Side) (sheet : Sheet) (room total : ℕ) (s : State) (rest : Li
   pub goes : (c : Command) → Lets (found rest) (step_for side sheet room total s rest) c → first (tests_for side sheet room s c) ≡ Clean → step_for side sheet room total s rest ≡ Goes (after_for side sheet room s c) (drop (size c) rest)
   goes c h e = h.judged ∙ ap (turned (Known c)) e
 
-  pub faults : (c : Command) (x : Stop) → Lets (found rest) (step_for side sheet room total s rest) c → first (tests_for side sheet room s c) ≡ Faulty x.cause → step_for side sheet room total s rest ≡ stopped x
+  pub faults : (c : Command) (x : Cause) → Lets (found rest) (step_for side sheet room total s rest) c → first (tests_for side sheet room s c) ≡ Faulty x → step_for side sheet room total s rest ≡ stopped x
   faults c x h e = h.judged ∙ ap (turned (Known c)) e
 
 -- An answer with its place, taken apart.
 
-pub told_err : {T : Type 0} (total place : ℕ) (r : Result T Stop) (f : PlanFault) → Err f ≡ told_of total place r → (x : Stop) × (r ≡ Err x) × (f ≡ record { cause = x.cause; place = place_of x.cause total place })
+pub told_err : {T : Type 0} (total place : ℕ) (r : Result T Cause) (f : PlanFault) → Err f ≡ told_of total place r → (x : Cause) × (r ≡ Err x) × (f ≡ record { cause = x; place = place_of x total place })
 told_err total place (Ok y) f e = let z : ◌≡◌ {A = ℕ} 0 1 = cc in absurd (omega arith)
 told_err total place (Err x) f e = (x, refl, cc)
 
-pub told_ok : {T : Type 0} (total place : ℕ) (r : Result T Stop) (y : T) → Ok y ≡ told_of total place r → r ≡ Ok y
+pub told_ok : {T : Type 0} (total place : ℕ) (r : Result T Cause) (y : T) → Ok y ≡ told_of total place r → r ≡ Ok y
 told_ok total place (Ok x) y e = let same : y ≡ x = cc in ap Ok (sym same)
 told_ok total place (Err x) y e = let z : ◌≡◌ {A = ℕ} 0 1 = cc in absurd (omega arith)
 

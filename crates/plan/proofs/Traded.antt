@@ -1,27 +1,23 @@
 -- An exchange started, or refused. Assumes nothing.
-use Rattle.std.proofs.Common.{◌≡◌, ℕ, ◌+◌, ◌<◌, Bool, ltb, List, [], ◌∷◌, ◌++◌, length, take, drop, set, Ok, Err, Result, sym, refl, ap, ◌∙◌, arith}
+use Rattle.std.proofs.Common.{◌≡◌, ℕ, ◌+◌, ◌<◌, Bool, ltb, List, [], ◌∷◌, ◌++◌, length, take, drop, set, Ok, Err, Result, refl, ◌∙◌, arith}
 use Rattle.std.proofs.lemmas.List.{take_more_set, drop-set-lt}
 use Rattle.model.specs.Sheet.{Sheet}
 use Rattle.model.specs.Timetable.{Side, occupies}
 use Rattle.model.specs.declared.Exchange.{Exchange}
 use Rattle.model.specs.declared.Command.TheVariants.{Trades}
-use Rattle.model.specs.declared.Cause.TheVariants.{ListFull}
+use Rattle.model.specs.declared.Cause.{Cause}
 use Rattle.model.specs.Verdict.{State, Finding, Clean, Faulty, after}
-use Rattle.plan.specs.declared.fault.Stop.{Stop}
 use Rattle.plan.specs.declared.track.Track.{Track}
 use Rattle.plan.specs.Noted.{started}
 use Rattle.plan.specs.Tracks.{whole, answered, if_room, after_for}
 
-pub faulty_by : (f : Finding) (e : Stop) → Err e ≡ answered f → f ≡ Faulty e.cause
-faulty_by Clean e p = let z : ◌≡◌ {A = ℕ} 0 1 = cc in absurd (omega arith)
-faulty_by (Faulty c) e p = let same : e ≡ record { cause = c } = cc in ap (λ (x : Stop). Faulty x.cause) (sym same)
+pub faulty_by : (f : Finding) (e : Cause) → Err e ≡ answered f → f ≡ Faulty e
+faulty_by Clean e p = cc
+faulty_by (Faulty c) e p = cc
 
 pub clean_by : (f : Finding) → Ok tt ≡ answered f → f ≡ Clean
 clean_by Clean p = refl
-clean_by (Faulty c) p = let z : ◌≡◌ {A = ℕ} 0 1 = cc in absurd (omega arith)
-
-pub stop_is : (x : Stop) → x.cause ≡ ListFull → x ≡ record { cause = ListFull }
-stop_is x e = λ i. record { cause = e i }
+clean_by (Faulty c) p = cc
 
 abbrev pub with_records : List Exchange → State → State
 with_records xs s = record { phase = s.phase; opened = s.opened; floor = s.floor; position = s.position; boundary = s.boundary; waits = s.waits; landing = s.landing; marks = s.marks; idle = s.idle; records = xs }
@@ -38,7 +34,7 @@ module _ (len len' : ℕ) (slots slots' : List Exchange) (x : Exchange) (p : len
   same_later = rw (p, q) (drop-set-lt (len + 1) slots len x (omega arith))
 
 -- the answer with the list's own refusal
-pub with_room : (b : Bool) (xs : List Exchange) (n room : ℕ) (r : Result (Unit {0}) Stop) (f : Finding) → length xs ≡ n → ltb n room ≡ b → r ≡ Ok tt → if_room (ltb (length xs) room) r ≡ answered f → if_room b (Ok tt) ≡ answered f
+pub with_room : (b : Bool) (xs : List Exchange) (n room : ℕ) (r : Result (Unit {0}) Cause) (f : Finding) → length xs ≡ n → ltb n room ≡ b → r ≡ Ok tt → if_room (ltb (length xs) room) r ≡ answered f → if_room b (Ok tt) ≡ answered f
 with_room b xs n room r f e t is a = rw (e, t, is) at a
 
 -- the state after an exchange

@@ -8,7 +8,7 @@ use Rattle.model.specs.declared.Cause.{Cause}
 use Rattle.model.specs.declared.Exchange.{Exchange}
 use Rattle.model.specs.Verdict.{Answer, Outcome, Accepted, Refused}
 use Rattle.plan.specs.declared.counts.Counts.{Counts}
-use Rattle.plan.specs.declared.fault.PlanFault.{PlanFault}
+use Rattle.plan.specs.Numbers.{PlanFault}
 use Rattle.plan.specs.Steps.{verdict_for}
 
 -- an answer, with the exchanges that the list holds

@@ -4,7 +4,7 @@ use Rattle.model.specs.Sheet.{Sheet}
 use Rattle.model.specs.Timetable.{Forward}
 use Rattle.model.specs.Verdict.{Answer, Accepted, Refused}
 use Rattle.plan.specs.declared.counts.Counts.{Counts}
-use Rattle.plan.specs.declared.fault.PlanFault.{PlanFault}
+use Rattle.plan.specs.Numbers.{PlanFault}
 use Rattle.plan.specs.Steps.{verdict_for}
 
 abbrev pub says : Answer → Counts → Bool

@@ -3,7 +3,7 @@ use Rattle.std.specs.Prelude.{ℕ, List, Ok, Err, Result}
 use Rattle.model.specs.Sheet.{Sheet}
 use Rattle.model.specs.Timetable.{Side}
 use Rattle.model.specs.Verdict.{State, Turn, Goes, Stops, step, Outcome, run, verdict}
-use Rattle.plan.specs.declared.fault.PlanFault.{PlanFault}
+use Rattle.plan.specs.Numbers.{PlanFault}
 use Rattle.plan.specs.declared.reader.PlanReader.{PlanReader}
 
 abbrev pub step_for : Side → Sheet → ℕ → ℕ → State → List ℕ → Turn

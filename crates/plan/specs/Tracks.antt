@@ -3,10 +3,10 @@ use Rattle.std.specs.Prelude.{ℕ, Bool, true, false, List, Ok, Err, Result}
 use Rattle.model.specs.Sheet.{Sheet}
 use Rattle.model.specs.Timetable.{Side}
 use Rattle.model.specs.declared.Exchange.{Exchange}
+use Rattle.model.specs.declared.Cause.{Cause}
 use Rattle.model.specs.declared.Cause.TheVariants.{ListFull}
 use Rattle.model.specs.declared.Command.{Command}
 use Rattle.model.specs.Verdict.{State, Test, Finding, Clean, Faulty, own_tests, after}
-use Rattle.plan.specs.declared.fault.Stop.{Stop}
 use Rattle.plan.specs.declared.track.Track.{Track}
 
 abbrev pub whole : Track → List Exchange → State
@@ -32,15 +32,15 @@ abbrev pub after_for : Side → Sheet → ℕ → State → Command → State
 after_for side sheet room s c = after side sheet.rack.homes sheet.rack.frames sheet.rack.fetch sheet.requests room s c
 
 -- what a command answers, and what it leaves: a refused one changes nothing
-abbrev pub answered : Finding → Result (Unit {0}) Stop
+abbrev pub answered : Finding → Result (Unit {0}) Cause
 answered Clean = Ok tt
-answered (Faulty c) = Err (record { cause = c })
+answered (Faulty c) = Err c
 
 -- the list's own refusal comes last
-abbrev pub if_room : Bool → Result (Unit {0}) Stop → Result (Unit {0}) Stop
+abbrev pub if_room : Bool → Result (Unit {0}) Cause → Result (Unit {0}) Cause
 if_room room (Err e) = Err e
 if_room true (Ok x) = Ok x
-if_room false (Ok x) = Err (record { cause = ListFull })
+if_room false (Ok x) = Err ListFull
 
 abbrev pub left_by : State → State → Finding → State
 left_by s t Clean = t

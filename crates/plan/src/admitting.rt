@@ -4,7 +4,7 @@ ghost use Rattle.model.specs.Verdict.{in_place, is_over, size, within_limit};
 ghost use Rattle.plan.specs.Admitted.{admitted, command_admitted, stray, told_of};
 ghost use Rattle.plan.specs.Fronts.{found_of};
 
-use crate::fault::{PlanFault, Stop};
+use crate::fault::PlanFault;
 use crate::front::Found;
 use crate::track::Track;
 use model::{Cause, Command, Phase};
@@ -36,36 +36,29 @@ fn is_within_limit(total: usize, place: usize, bytes: usize) -> bool
 }
 
 // One byte that no command has there.
-fn stray_byte(total: usize, place: usize) -> Stop
+fn stray_byte(total: usize, place: usize) -> Cause
     ensures { result ≡ stray total place }
 {
     if is_within_limit(total, place, 1) {
-        Stop {
-            cause: Cause::OutOfPlace,
-        }
+        Cause::OutOfPlace
     } else {
-        Stop {
-            cause: Cause::OverLimit,
-        }
+        Cause::OverLimit
     }
 }
 
-// A stop told with its place: bytes that run out are told at the end of the bytes.
-pub(crate) fn told<T>(answer: Result<T, Stop>, total: usize, place: usize) -> Result<T, PlanFault>
+// A refusal told with its place: bytes that run out are told at the end of the bytes.
+pub(crate) fn told<T>(answer: Result<T, Cause>, total: usize, place: usize) -> Result<T, PlanFault>
     ensures { result ≡ told_of total place answer }
 {
     match answer {
         Ok(value) => Ok(value),
-        Err(stop) => {
-            let place = if matches!(stop.cause, Cause::RunsOut) {
+        Err(cause) => {
+            let place = if matches!(cause, Cause::RunsOut) {
                 total
             } else {
                 place
             };
-            Err(PlanFault {
-                cause: stop.cause,
-                place,
-            })
+            Err(PlanFault { cause, place })
         }
     }
 }
@@ -100,24 +93,18 @@ impl Track {
         total: usize,
         place: usize,
         left: usize,
-    ) -> Result<Command, Stop>
+    ) -> Result<Command, Cause>
         ensures { result ≡ command_admitted self.now.phase command total place left }
     {
         let bytes = size_of(command);
         if !is_within_limit(total, place, bytes) {
-            return Err(Stop {
-                cause: Cause::OverLimit,
-            });
+            return Err(Cause::OverLimit);
         }
         if !self.takes(command) {
-            return Err(Stop {
-                cause: Cause::OutOfPlace,
-            });
+            return Err(Cause::OutOfPlace);
         }
         if bytes > left {
-            return Err(Stop {
-                cause: Cause::RunsOut,
-            });
+            return Err(Cause::RunsOut);
         }
         Ok(command)
     }
@@ -129,16 +116,14 @@ impl Track {
         total: usize,
         place: usize,
         left: usize,
-    ) -> Result<Command, Stop>
+    ) -> Result<Command, Cause>
         ensures { result ≡ admitted self.now.phase (found_of found) total place left }
     {
         if self.is_over() {
             return Err(stray_byte(total, place));
         }
         match found {
-            Found::Missing => Err(Stop {
-                cause: Cause::RunsOut,
-            }),
+            Found::Missing => Err(Cause::RunsOut),
             Found::Strange => Err(stray_byte(total, place)),
             Found::Known(command) => self.admit_command(command, total, place, left),
         }

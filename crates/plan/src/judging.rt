@@ -8,7 +8,6 @@ ghost use Rattle.model.specs.declared.Exchange.{Exchange as Trade};
 ghost use Rattle.sheet.specs.Sheets.{meant};
 ghost use Rattle.plan.specs.Tracks.{whole, tests_for, after_for, answered, if_room, left_by};
 
-use crate::fault::Stop;
 use crate::marks::home;
 use crate::side::Lane;
 use crate::track::Track;
@@ -37,25 +36,19 @@ impl Track {
     }
 
     // `O`: one more block of the opening, above those before.
-    fn open(&mut self, sheet: Sheet, block: u16) -> Result<(), Stop>
+    fn open(&mut self, sheet: Sheet, block: u16) -> Result<(), Cause>
         ensures answer { (side : Which) (room : ℕ) (xs : ListOf Trade) → result ≡ answered (first (tests_for side (meant sheet.entry) room (whole self.old xs) (Opens block))) }
         ensures after { (side : Which) (room : ℕ) (xs : ListOf Trade) → whole self.new xs ≡ left_by (whole self.old xs) (after_for side (meant sheet.entry) room (whole self.old xs) (Opens block)) (first (tests_for side (meant sheet.entry) room (whole self.old xs) (Opens block))) }
     {
         let at = block as usize;
         if self.opened >= usize::from(sheet.rack().frames()) {
-            return Err(Stop {
-                cause: Cause::BadOpening,
-            });
+            return Err(Cause::BadOpening);
         }
         if at < self.floor {
-            return Err(Stop {
-                cause: Cause::BadOpening,
-            });
+            return Err(Cause::BadOpening);
         }
         if at >= sheet.rack().blocks() {
-            return Err(Stop {
-                cause: Cause::BadOpening,
-            });
+            return Err(Cause::BadOpening);
         }
         self.phase = Phase::Filling;
         self.opened += 1;
@@ -65,25 +58,19 @@ impl Track {
     }
 
     // `S`: the block of the request at the position is here.
-    fn serve(&mut self, sheet: Sheet) -> Result<(), Stop>
+    fn serve(&mut self, sheet: Sheet) -> Result<(), Cause>
         requires { self.old.boundary ≤ 1048576 }
         ensures answer { (side : Which) (room : ℕ) (xs : ListOf Trade) → result ≡ answered (first (tests_for side (meant sheet.entry) room (whole self.old xs) Serves)) }
         ensures after { (side : Which) (room : ℕ) (xs : ListOf Trade) → whole self.new xs ≡ left_by (whole self.old xs) (after_for side (meant sheet.entry) room (whole self.old xs) Serves) (first (tests_for side (meant sheet.entry) room (whole self.old xs) Serves)) }
     {
         if self.opened != usize::from(sheet.rack().frames()) {
-            return Err(Stop {
-                cause: Cause::BadOpening,
-            });
+            return Err(Cause::BadOpening);
         }
         let Some(block) = sheet.request(self.position) else {
-            return Err(Stop {
-                cause: Cause::CannotServe,
-            });
+            return Err(Cause::CannotServe);
         };
         if !self.is_here(block) {
-            return Err(Stop {
-                cause: Cause::CannotServe,
-            });
+            return Err(Cause::CannotServe);
         }
         self.phase = Phase::Standing;
         self.position += 1;
@@ -92,44 +79,36 @@ impl Track {
     }
 
     // `W`: one step more.
-    fn wait(&mut self, sheet: Sheet) -> Result<(), Stop>
+    fn wait(&mut self, sheet: Sheet) -> Result<(), Cause>
         requires { self.old.boundary ≤ 1048576 }
         ensures answer { (side : Which) (room : ℕ) (xs : ListOf Trade) → result ≡ answered (first (tests_for side (meant sheet.entry) room (whole self.old xs) Waits)) }
         ensures after { (side : Which) (room : ℕ) (xs : ListOf Trade) → whole self.new xs ≡ left_by (whole self.old xs) (after_for side (meant sheet.entry) room (whole self.old xs) Waits) (first (tests_for side (meant sheet.entry) room (whole self.old xs) Waits)) }
     {
         if self.opened != usize::from(sheet.rack().frames()) {
-            return Err(Stop {
-                cause: Cause::BadOpening,
-            });
+            return Err(Cause::BadOpening);
         }
         self.note_wait();
         Ok(())
     }
 
     // Whether the end may stand here.
-    fn may_end(&self, sheet: Sheet) -> Result<(), Stop>
+    fn may_end(&self, sheet: Sheet) -> Result<(), Cause>
         ensures { (side : Which) (room : ℕ) (xs : ListOf Trade) → result ≡ answered (first (tests_for side (meant sheet.entry) room (whole self.now xs) Ends)) }
     {
         if self.opened != usize::from(sheet.rack().frames()) {
-            return Err(Stop {
-                cause: Cause::BadOpening,
-            });
+            return Err(Cause::BadOpening);
         }
         if self.position != sheet.len() {
-            return Err(Stop {
-                cause: Cause::RequestsLeft,
-            });
+            return Err(Cause::RequestsLeft);
         }
         if self.landing > self.boundary {
-            return Err(Stop {
-                cause: Cause::NotLanded,
-            });
+            return Err(Cause::NotLanded);
         }
         Ok(())
     }
 
     // `E`: all requests are served and all exchanges have landed.
-    fn end(&mut self, sheet: Sheet) -> Result<(), Stop>
+    fn end(&mut self, sheet: Sheet) -> Result<(), Cause>
         ensures answer { (side : Which) (room : ℕ) (xs : ListOf Trade) → result ≡ answered (first (tests_for side (meant sheet.entry) room (whole self.old xs) Ends)) }
         ensures after { (side : Which) (room : ℕ) (xs : ListOf Trade) → whole self.new xs ≡ left_by (whole self.old xs) (after_for side (meant sheet.entry) room (whole self.old xs) Ends) (first (tests_for side (meant sheet.entry) room (whole self.old xs) Ends)) }
     {
@@ -139,31 +118,23 @@ impl Track {
     }
 
     // `X`: whether a block may come in for another, in the order in which its faults are told.
-    fn may_trade<S: Lane>(&self, sheet: Sheet, exchange: Exchange) -> Result<(), Stop>
+    fn may_trade<S: Lane>(&self, sheet: Sheet, exchange: Exchange) -> Result<(), Cause>
         requires { exchange.start ≡ self.now.boundary }
         ensures answer { (room : ℕ) (xs : ListOf Trade) → if_room (nat_lt (length xs) room) result ≡ answered (first (tests_for S.Lane.side (meant sheet.entry) room (whole self.now xs) (Trades exchange.brings exchange.sends))) }
         ensures inside { OnOk result ((exchange.brings < 1024) × (exchange.sends < 1024)) }
     {
         let rack = sheet.rack();
         if self.opened != usize::from(rack.frames()) {
-            return Err(Stop {
-                cause: Cause::BadOpening,
-            });
+            return Err(Cause::BadOpening);
         }
         if exchange.brings as usize >= rack.blocks() || !self.is_away(exchange.brings) {
-            return Err(Stop {
-                cause: Cause::BadIn,
-            });
+            return Err(Cause::BadIn);
         }
         if exchange.sends as usize >= rack.blocks() || !self.is_here(exchange.sends) {
-            return Err(Stop {
-                cause: Cause::BadOut,
-            });
+            return Err(Cause::BadOut);
         }
         if !self.is_idle(home(rack, S::carrier(exchange))) {
-            return Err(Stop {
-                cause: Cause::DiskBusy,
-            });
+            return Err(Cause::DiskBusy);
         }
         Ok(())
     }
@@ -175,7 +146,7 @@ impl Track {
         brings: u16,
         sends: u16,
         list: &mut List<Exchange>,
-    ) -> Result<(), Stop>
+    ) -> Result<(), Cause>
         requires { self.old.boundary ≤ 1048576 }
         ensures answer { result ≡ answered (first (tests_for S.Lane.side (meant sheet.entry) (length list.old.slots.now) (whole self.old (held list.old.len list.old.slots.now)) (Trades brings sends))) }
         ensures after { whole self.new (held list.new.len list.new.slots.now) ≡ left_by (whole self.old (held list.old.len list.old.slots.now)) (after_for S.Lane.side (meant sheet.entry) (length list.old.slots.now) (whole self.old (held list.old.len list.old.slots.now)) (Trades brings sends)) (first (tests_for S.Lane.side (meant sheet.entry) (length list.old.slots.now) (whole self.old (held list.old.len list.old.slots.now)) (Trades brings sends))) }
@@ -198,7 +169,7 @@ impl Track {
         sheet: Sheet,
         command: Command,
         list: &mut List<Exchange>,
-    ) -> Result<(), Stop>
+    ) -> Result<(), Cause>
         requires { self.old.boundary ≤ 1048576 }
         ensures answer { result ≡ answered (first (tests_for S.Lane.side (meant sheet.entry) (length list.old.slots.now) (whole self.old (held list.old.len list.old.slots.now)) command)) }
         ensures after { whole self.new (held list.new.len list.new.slots.now) ≡ left_by (whole self.old (held list.old.len list.old.slots.now)) (after_for S.Lane.side (meant sheet.entry) (length list.old.slots.now) (whole self.old (held list.old.len list.old.slots.now)) command) (first (tests_for S.Lane.side (meant sheet.entry) (length list.old.slots.now) (whole self.old (held list.old.len list.old.slots.now)) command)) }

@@ -11,7 +11,7 @@ use Rattle.sheet.specs.Sheets.{meant}
 use Rattle.plan.specs.Noted.{started}
 use Rattle.plan.specs.Tracks.{whole, tests_for, answered, if_room, left_by}
 use Rattle.records.proofs.Pushes.{full_by, room_by}
-use Rattle.plan.proofs.Traded.{faulty_by, clean_by, stop_is, kept_state, one_more, same_later, with_room, started_is}
+use Rattle.plan.proofs.Traded.{faulty_by, clean_by, kept_state, one_more, same_later, with_room, started_is}
 use Rattle.plan.proofs.track.Track.trade.Goals as goal
 
 pub returns-in_err-may_trade : goal.returns-in_err-may_trade
@@ -53,7 +53,7 @@ returns-in_err-push g c =
     let same_len = c.push.ensures.len ∙ cond-false _ _ _ full in
     let same_slots = c.push.ensures.slots ∙ set_past _ _ _ (ltb-false _ _ full) in
     record {
-      answer = told.1 ∙ ap Err (stop_is told.0 told.2) ∙ answer;
+      answer = told.1 ∙ ap Err told.2 ∙ answer;
       after = kept_state c.args.self.now l.len _ slots _ same_len same_slots ∙ sym (ap (left_by s _) f);
       room = ap length same_slots;
       grows = omega (arith, same_len);

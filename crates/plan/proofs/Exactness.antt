@@ -13,6 +13,8 @@ use Rattle.model.proofs.Exact.{accepts_exactly}
 use Rattle.model.proofs.Refused.{refuses_exactly}
 use Rattle.sheet.specs.declared.rack.Rack.{Rack}
 use Rattle.sheet.specs.Headers.{rack_of}
+use Rattle.sheet.specs.Sheets.{meant}
+use Rattle.sheet.specs.declared.view.Sheet.{Sheet as Lent}
 use Rattle.plan.specs.declared.counts.Counts.{Counts}
 use Rattle.plan.specs.Numbers.{PlanFault}
 use Rattle.plan.specs.Checks.{outcome_of, answer_of, ChecksExactly}
@@ -56,6 +58,9 @@ rack_fit rack =
       lasts = rack.some_time;
     }
 
+pub exact_on : (side : Side) (sheet : Lent) (room : ℕ) (bytes : List ℕ) → ((i : ℕ) → i < length bytes → get_or bytes i 0 < 256) → ChecksExactly side (meant sheet) room bytes
+exact_on side sheet room bytes small = checks_exactly side (meant sheet) room bytes (rack_fit sheet.rack.now) small
+
 -- an accepted plan is accepted with the same counts whatever the list, if it is long enough
 says_it : (a : Answer) (c : Counts) → a ≡ Accepted c.steps c.waits c.exchanges → says a c ≡ true
 says_it a c e = rw (e, eq-eqb c.steps c.steps refl, eq-eqb c.waits c.waits refl, eq-eqb c.exchanges c.exchanges refl)
@@ -72,6 +77,9 @@ module _ (sheet : Sheet) (room : ℕ) (bytes : List ℕ) (fit : Fit sheet.rack.h
       exchanges_of : {a b d x y z : ℕ} → Accepted a b d ≡ Accepted x y z → z ≡ d
       exchanges_of p = cc
 
-  pub receipt_holds : (r : Result Counts PlanFault) → answer_of r ≡ (verdict_for Forward sheet room bytes).answer → holds sheet bytes r ≡ true
+  receipt_holds : (r : Result Counts PlanFault) → answer_of r ≡ (verdict_for Forward sheet room bytes).answer → holds sheet bytes r ≡ true
   receipt_holds (Ok c) e = holds_ok c e
   receipt_holds (Err f) e = refl
+
+pub receipt_good : (sheet : Lent) (room : ℕ) (bytes : List ℕ) (r : Result Counts PlanFault) → ((i : ℕ) → i < length bytes → get_or bytes i 0 < 256) → answer_of r ≡ (verdict_for Forward (meant sheet) room bytes).answer → holds (meant sheet) bytes r ≡ true
+receipt_good sheet room bytes r small e = receipt_holds (meant sheet) room bytes (rack_fit sheet.rack.now) small r e

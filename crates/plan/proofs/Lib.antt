@@ -1,6 +1,5 @@
 pub mod Exactness
 pub mod Fronts
-pub mod Judged
 pub mod Looped
 pub mod Stepped
 pub mod Traded

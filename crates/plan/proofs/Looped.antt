@@ -3,20 +3,21 @@ use Rattle.std.proofs.Common.{◌≡◌, ℕ, suc, ◌+◌, ◌-◌, ◌≤◌, 
 use Rattle.std.proofs.lemmas.List.{drop-drop}
 use Rattle.model.specs.Sheet.{Sheet}
 use Rattle.model.specs.Timetable.{Side}
-use Rattle.model.specs.declared.Exchange.{Exchange}
 use Rattle.model.specs.Verdict.{State, begin, Turn, Goes, Stops, finished, accepted, Outcome, Accepted, refused, verdict}
 use Rattle.model.proofs.Turns.{run_goes, run_stops, run_finishes}
+use Rattle.records.specs.Pushed.{OnlyPushed}
+use Rattle.records.specs.declared.list.List.{List as Listed}
 use Rattle.plan.specs.declared.counts.Counts.{Counts}
 use Rattle.plan.specs.Numbers.{PlanFault}
 use Rattle.plan.specs.Checks.{outcome_of}
 use Rattle.plan.specs.Steps.{step_for, run_for, verdict_for, step_answer, step_left}
 
 went : (t : Turn) (s u : State) (more : List ℕ) → Ok more ≡ step_answer t → u ≡ step_left s t → t ≡ Goes u more
-went (Goes v r) s u more e f = let same : more ≡ r = cc in rw (f, same)
-went (Stops c p) s u more e f = let z : ◌≡◌ {A = ℕ} 0 1 = cc in absurd (omega arith)
+went (Goes v r) s u more e f = cc
+went (Stops c p) s u more e f = cc
 
-pub halted : (t : Turn) (f : PlanFault) → Err f ≡ step_answer t → t ≡ Stops f.cause f.place
-halted (Goes v r) f e = let z : ◌≡◌ {A = ℕ} 0 1 = cc in absurd (omega arith)
+halted : (t : Turn) (f : PlanFault) → Err f ≡ step_answer t → t ≡ Stops f.cause f.place
+halted (Goes v r) f e = cc
 halted (Stops c p) f e = let same : f ≡ record { cause = c; place = p } = cc in ap (λ (x : PlanFault). Stops x.cause x.place) (sym same)
 
 module _ (side : Side) (sheet : Sheet) (room n total : ℕ) (s : State) (rest : List ℕ) (o : Outcome) (is : run_for side sheet room (suc n) total s rest ≡ o) where
@@ -24,9 +25,10 @@ module _ (side : Side) (sheet : Sheet) (room n total : ℕ) (s : State) (rest : 
   goes_on u more l open' e f =
       sym (run_goes side sheet.rack.homes sheet.rack.frames sheet.rack.fetch sheet.requests room total n s rest u more l open' (went (step_for side sheet room total s rest) s u more e f)) ∙ is
 
-  pub stops_here : (f : PlanFault) → finished s rest ≡ false → Err f ≡ step_answer (step_for side sheet room total s rest) → refused s f.cause f.place ≡ o
+  pub stops_here : (f : PlanFault) → finished s rest ≡ false → Err f ≡ step_answer (step_for side sheet room total s rest) → (refused s f.cause f.place ≡ o) × (step_left s (step_for side sheet room total s rest) ≡ s)
   stops_here f open' e =
-      sym (run_stops side sheet.rack.homes sheet.rack.frames sheet.rack.fetch sheet.requests room total n s rest f.cause f.place open' (halted (step_for side sheet room total s rest) f e)) ∙ is
+      let stop = halted (step_for side sheet room total s rest) f e in
+      (sym (run_stops side sheet.rack.homes sheet.rack.frames sheet.rack.fetch sheet.requests room total n s rest f.cause f.place open' stop) ∙ is, ap (step_left s) stop)
 
   pub ends_here : finished s rest ≡ true → accepted s ≡ o
   ends_here e = sym (run_finishes side sheet.rack.homes sheet.rack.frames sheet.rack.fetch sheet.requests room total n s rest e) ∙ is
@@ -37,11 +39,14 @@ begins side sheet room bytes = refl
 
 -- Slots that were kept so far stay kept.
 
-pub kept_on : (k k' : ℕ) (xs ys zs : List Exchange) → k ≤ k' → drop k xs ≡ drop k zs → drop k' ys ≡ drop k' xs → drop k' ys ≡ drop k' zs
+kept_on : {T : Type 0} (k k' : ℕ) (xs ys zs : List T) → k ≤ k' → drop k xs ≡ drop k zs → drop k' ys ≡ drop k' xs → drop k' ys ≡ drop k' zs
 kept_on k k' xs ys zs l e f =
     let d = k' - k in
     let back : k + d ≡ k' = omega arith in
     f ∙ ap (λ (n : ℕ). drop n xs) (sym back) ∙ sym (drop-drop d k xs) ∙ ap (drop d) e ∙ drop-drop d k zs ∙ ap (λ (n : ℕ). drop n zs) back
+
+pub pushed_on : {T : Type 0} (a b d : Listed T) → OnlyPushed a b → OnlyPushed b d → OnlyPushed a d
+pushed_on a b d p q = record { room = q.room ∙ p.room; grows = omega (arith, p.grows, q.grows); later = kept_on b.len d.len b.slots.now d.slots.now a.slots.now q.grows p.later q.later; lent = q.lent ∙ p.lent }
 
 -- What the loop answers.
 

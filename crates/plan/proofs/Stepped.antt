@@ -1,6 +1,8 @@
 -- One command judged: what its being admitted gives. Assumes nothing.
-use Rattle.std.proofs.Common.{◌≡◌, ℕ, ◌+◌, ◌-◌, ◌≤◌, Bool, true, false, cond, not, ◌&&◌, ltb, leb, List, [], ◌∷◌, length, drop, Ok, Err, Result, sym, refl, ap, ◌∙◌, subst, ⊎_elim, arith}
-use Rattle.std.proofs.lemmas.Bool.{leb-true, ltb-false, cases_Bool}
+use Rattle.std.proofs.Common.{◌≡◌, ℕ, ◌+◌, ◌-◌, ◌<◌, ◌≤◌, Bool, true, false, cond, leb, List, [], ◌∷◌, length, drop, Ok, Err, Result, sym, refl, ap, ◌∙◌, subst, arith}
+use Rattle.std.proofs.lemmas.Bool.{leb-true}
+use Rattle.std.proofs.lemmas.Bool.Decides.{nat_tests}
+use Rattle.model.specs.PlanBytes.{plan_limit}
 use Rattle.model.specs.Sheet.{Sheet}
 use Rattle.model.specs.Timetable.{Side}
 use Rattle.model.specs.declared.Cause.{Cause}
@@ -9,11 +11,22 @@ use Rattle.model.specs.declared.Command.{Command}
 use Rattle.model.specs.declared.Command.TheVariants.{Opens, Trades, Serves, Waits, Ends}
 use Rattle.model.specs.declared.Phase.{Phase}
 use Rattle.model.specs.declared.Phase.TheVariants.{Filling, Standing, Starting, Over}
-use Rattle.model.specs.Verdict.{State, Found, Missing, Strange, Known, found, Test, test, Finding, Clean, Faulty, first, Turn, Goes, Stops, turn_by, tests_at, tests_of, size, in_place, is_over, within_limit, place_of, step, after}
+use Rattle.model.specs.Verdict.{State, Found, Missing, Strange, Known, found, Test, test, Finding, first, Turn, Goes, Stops, turn_by, tests_at, tests_of, size, in_place, is_over, within_limit, place_of, step, after}
 use Rattle.plan.specs.Numbers.{PlanFault}
-use Rattle.plan.specs.Admitted.{stray, admit_found, admitted, told_of}
+use Rattle.plan.specs.Admitted.{stray, admit_found, admitted_of, told_of}
 use Rattle.plan.specs.Steps.{step_for}
-use Rattle.plan.specs.Tracks.{tests_for, after_for}
+use Rattle.plan.specs.Tracks.{tests_for, after_for, finding, answered, left_by, left_for}
+use Rattle.plan.proofs.Traded.{faulty_by, clean_by}
+
+-- An answer with its place, taken apart.
+
+told_err : {T : Type 0} (total place : ℕ) (r : Result T Cause) (f : PlanFault) → Err f ≡ told_of total place r → (x : Cause) × (r ≡ Err x) × (f ≡ record { cause = x; place = place_of x total place })
+told_err total place (Ok y) f e = cc
+told_err total place (Err x) f e = (x, refl, cc)
+
+told_ok : {T : Type 0} (total place : ℕ) (r : Result T Cause) (y : T) → Ok y ≡ told_of total place r → r ≡ Ok y
+told_ok total place (Ok x) y e = cc
+told_ok total place (Err x) y e = cc
 
 module _ (side : Side) (sheet : Sheet) (room total : ℕ) (s : State) (rest : List ℕ) where
   abbrev turned : Found → Finding → Turn
@@ -21,6 +34,9 @@ module _ (side : Side) (sheet : Sheet) (room total : ℕ) (s : State) (rest : Li
 
   abbrev stopped : Cause → Turn
   stopped x = Stops x (place_of x total (total - length rest))
+
+  stopped_at : (x : Cause) (f : PlanFault) → f ≡ record { cause = x; place = place_of x total (total - length rest) } → stopped x ≡ Stops f.cause f.place
+  stopped_at x f e = ap (λ (g : PlanFault). Stops g.cause g.place) (sym e)
 
   -- what follows from an admission, of whatever stands there
   pub record Lets (f : Found) (t : Turn) (c : Command) : Type 0 where
@@ -57,43 +73,34 @@ module _ (side : Side) (sheet : Sheet) (room total : ℕ) (s : State) (rest : Li
   by_phase Starting f = by_found f
   by_phase Over f = strays f (within_limit total (total - length rest) 1)
 
-  gives : Gives (found rest) (step_for side sheet room total s rest) (admitted s.phase (found rest) total (total - length rest) (length rest))
+  gives : Gives (found rest) (step_for side sheet room total s rest) (admitted_of s.phase total rest)
   unfolding step
   gives = by_phase s.phase (found rest)
 
-  pub refused : (x : Cause) → Err x ≡ admitted s.phase (found rest) total (total - length rest) (length rest) → step_for side sheet room total s rest ≡ stopped x
-  refused x e = subst (Gives (found rest) (step_for side sheet room total s rest)) (sym e) gives
+  pub refused : (r : Result Command Cause) (f : PlanFault) → r ≡ admitted_of s.phase total rest → Err f ≡ told_of total (total - length rest) r → step_for side sheet room total s rest ≡ Stops f.cause f.place
+  refused r f e told =
+      let why = told_err total (total - length rest) r f told in
+      subst (Gives (found rest) (step_for side sheet room total s rest)) (sym e ∙ why.1) gives ∙ stopped_at why.0 f why.2
 
-  pub lets : (c : Command) → Ok c ≡ admitted s.phase (found rest) total (total - length rest) (length rest) → Lets (found rest) (step_for side sheet room total s rest) c
-  lets c e = subst (Gives (found rest) (step_for side sheet room total s rest)) (sym e) gives
+  pub lets : (r : Result Command Cause) (c : Command) → r ≡ admitted_of s.phase total rest → Ok c ≡ told_of total (total - length rest) r → Lets (found rest) (step_for side sheet room total s rest) c
+  lets r c e told = subst (Gives (found rest) (step_for side sheet room total s rest)) (sym e ∙ told_ok total (total - length rest) r c told) gives
 
-  pub goes : (c : Command) → Lets (found rest) (step_for side sheet room total s rest) c → first (tests_for side sheet room s c) ≡ Clean → step_for side sheet room total s rest ≡ Goes (after_for side sheet room s c) (drop (size c) rest)
-  goes c h e = h.judged ∙ ap (turned (Known c)) e
+  module _ (c : Command) (h : Lets (found rest) (step_for side sheet room total s rest) c) (r : Result (Unit {0}) Cause) (e : r ≡ answered (finding side sheet room s c)) (t : State) (left : t ≡ left_for side sheet room s c) where
+    pub goes : Ok tt ≡ told_of total (total - length rest) r → (step_for side sheet room total s rest ≡ Goes (after_for side sheet room s c) (drop (size c) rest)) × (t ≡ after_for side sheet room s c)
+    goes told =
+        let found = clean_by _ (sym (told_ok total (total - length rest) r tt told) ∙ e) in
+        (h.judged ∙ ap (turned (Known c)) found, left ∙ ap (left_by s (after_for side sheet room s c)) found)
 
-  pub faults : (c : Command) (x : Cause) → Lets (found rest) (step_for side sheet room total s rest) c → first (tests_for side sheet room s c) ≡ Faulty x → step_for side sheet room total s rest ≡ stopped x
-  faults c x h e = h.judged ∙ ap (turned (Known c)) e
-
--- An answer with its place, taken apart.
-
-pub told_err : {T : Type 0} (total place : ℕ) (r : Result T Cause) (f : PlanFault) → Err f ≡ told_of total place r → (x : Cause) × (r ≡ Err x) × (f ≡ record { cause = x; place = place_of x total place })
-told_err total place (Ok y) f e = let z : ◌≡◌ {A = ℕ} 0 1 = cc in absurd (omega arith)
-told_err total place (Err x) f e = (x, refl, cc)
-
-pub told_ok : {T : Type 0} (total place : ℕ) (r : Result T Cause) (y : T) → Ok y ≡ told_of total place r → r ≡ Ok y
-told_ok total place (Ok x) y e = let same : y ≡ x = cc in ap Ok (sym same)
-told_ok total place (Err x) y e = let z : ◌≡◌ {A = ℕ} 0 1 = cc in absurd (omega arith)
+    pub faults : (f : PlanFault) → Err f ≡ told_of total (total - length rest) r → (step_for side sheet room total s rest ≡ Stops f.cause f.place) × (t ≡ s)
+    faults f told =
+        let why = told_err total (total - length rest) r f told in
+        let found = faulty_by _ why.0 (sym why.1 ∙ e) in
+        (h.judged ∙ ap (turned (Known c)) found ∙ stopped_at why.0 f why.2, left ∙ ap (left_by s (after_for side sheet room s c)) found)
 
 -- A command within the limit stands within it.
 
-pub small : (total place n b : ℕ) → within_limit total place n ≡ true → b ≤ place → place + n ≤ total → b ≤ 1048576
-small total place n b e l k =
-    ⊎_elim
-    (λ (p : ltb 1048576 total ≡ true). ⊎_elim
-    (λ (q : ltb 1048576 (place + n) ≡ true). let z : ◌≡◌ {A = Bool} false true = sym (ap not (ap (λ (x : Bool). x && ltb 1048576 (place + n)) p ∙ q)) ∙ e in let y : ◌≡◌ {A = ℕ} 0 1 = cc in absurd (omega arith))
-    (λ (q : ltb 1048576 (place + n) ≡ false). omega (arith, ltb-false 1048576 (place + n) q))
-    (cases_Bool (ltb 1048576 (place + n))))
-    (λ (p : ltb 1048576 total ≡ false). omega (arith, ltb-false 1048576 total p))
-    (cases_Bool (ltb 1048576 total))
+pub small : (total place n b : ℕ) → within_limit total place n ≡ true → 1 ≤ n → b ≤ place → place + n ≤ total → b < plan_limit
+small total place n b e some l k = grind (arith, nat_tests)
 
 -- A command takes at most one step.
 

@@ -1,5 +1,5 @@
 -- An exchange started, or refused. Assumes nothing.
-use Rattle.std.proofs.Common.{◌≡◌, ℕ, ◌+◌, ◌<◌, Bool, ltb, List, [], ◌∷◌, ◌++◌, length, take, drop, set, Ok, Err, Result, refl, ◌∙◌, arith}
+use Rattle.std.proofs.Common.{◌≡◌, ℕ, ◌+◌, ◌<◌, Bool, ltb, List, [], ◌∷◌, ◌++◌, length, take, drop, set, Ok, Err, Result, sym, refl, ap, ◌∙◌, arith}
 use Rattle.std.proofs.lemmas.List.{take_more_set, drop-set-lt}
 use Rattle.model.specs.Sheet.{Sheet}
 use Rattle.model.specs.Timetable.{Side, occupies}
@@ -9,7 +9,7 @@ use Rattle.model.specs.declared.Cause.{Cause}
 use Rattle.model.specs.Verdict.{State, Finding, Clean, Faulty, after}
 use Rattle.plan.specs.declared.track.Track.{Track}
 use Rattle.plan.specs.Noted.{started}
-use Rattle.plan.specs.Tracks.{whole, answered, if_room, after_for}
+use Rattle.plan.specs.Tracks.{whole, answered, if_room, after_for, left_by}
 
 pub faulty_by : (f : Finding) (e : Cause) → Err e ≡ answered f → f ≡ Faulty e
 faulty_by Clean e p = cc
@@ -18,6 +18,14 @@ faulty_by (Faulty c) e p = cc
 pub clean_by : (f : Finding) → Ok tt ≡ answered f → f ≡ Clean
 clean_by Clean p = refl
 clean_by (Faulty c) p = cc
+
+-- a refused command keeps the state, one that passes makes its own of it
+
+pub kept_by : (f : Finding) (e : Cause) (s t : State) → Err e ≡ answered f → s ≡ left_by s t f
+kept_by f e s t p = sym (ap (left_by s t) (faulty_by f e p))
+
+pub made_by : (f : Finding) (s t u : State) → Ok tt ≡ answered f → u ≡ t → u ≡ left_by s t f
+made_by f s t u p e = e ∙ sym (ap (left_by s t) (clean_by f p))
 
 abbrev pub with_records : List Exchange → State → State
 with_records xs s = record { phase = s.phase; opened = s.opened; floor = s.floor; position = s.position; boundary = s.boundary; waits = s.waits; landing = s.landing; marks = s.marks; idle = s.idle; records = xs }

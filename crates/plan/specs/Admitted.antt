@@ -1,10 +1,10 @@
 -- Whether a command may stand where it stands, before its own tests. Assumes nothing.
-use Rattle.std.specs.Prelude.{ℕ, cond, Ok, Err, Result, nat_le}
+use Rattle.std.specs.Prelude.{ℕ, ◌-◌, List, length, cond, Ok, Err, Result, nat_le}
 use Rattle.model.specs.declared.Cause.{Cause}
 use Rattle.model.specs.declared.Cause.TheVariants.{RunsOut, OutOfPlace, OverLimit}
 use Rattle.model.specs.declared.Command.{Command}
 use Rattle.model.specs.declared.Phase.{Phase}
-use Rattle.model.specs.Verdict.{Found, Missing, Strange, Known, size, in_place, is_over, within_limit, place_of}
+use Rattle.model.specs.Verdict.{Found, Missing, Strange, Known, found, size, in_place, is_over, within_limit, place_of}
 use Rattle.plan.specs.Numbers.{PlanFault}
 
 -- one byte that no command has there
@@ -25,6 +25,10 @@ admit_found phase (Known c) total place left = command_admitted phase c total pl
 -- past the end any byte is out of place
 abbrev pub admitted : Phase → Found → ℕ → ℕ → ℕ → Result Command Cause
 admitted phase f total place left = cond (is_over phase) (Err (stray total place)) (admit_found phase f total place left)
+
+-- the admission of what stands at the front of the rest
+abbrev pub admitted_of : Phase → ℕ → List ℕ → Result Command Cause
+admitted_of phase total rest = admitted phase (found rest) total (total - length rest) (length rest)
 
 -- an answer told with its place
 abbrev pub told_of : {T : Type 0} → ℕ → ℕ → Result T Cause → Result T PlanFault

@@ -1,9 +1,11 @@
 -- What the code's look at the front of a plan says. Assumes nothing.
-use Rattle.model.specs.Verdict as verdict
-use Rattle.plan.specs.declared.front.Found.{Found}
-use Rattle.plan.specs.declared.front.Found.TheVariants.{Missing, Strange, Known}
+use Rattle.std.specs.Prelude.{Ok, Err, Result}
+use Rattle.model.specs.Verdict.{Found, Missing, Strange, Known}
+use Rattle.model.specs.declared.Command.{Command}
+use Rattle.plan.specs.declared.front.NoCommand.{NoCommand}
+use Rattle.plan.specs.declared.front.NoCommand.TheVariants as none
 
-abbrev pub found_of : Found → verdict.Found
-found_of Missing = verdict.Missing
-found_of Strange = verdict.Strange
-found_of (Known c) = verdict.Known c
+abbrev pub found_of : Result Command NoCommand → Found
+found_of (Err none.Missing) = Missing
+found_of (Err none.Strange) = Strange
+found_of (Ok c) = Known c

@@ -27,5 +27,5 @@ step_left s (Stops cause place) = s
 
 -- an answer of the reader past a command: what is left of the bytes
 abbrev pub stepped : Result PlanReader PlanFault → Result (List ℕ) PlanFault
-stepped (Ok reader) = Ok reader.rest.now
+stepped (Ok reader) = Ok reader.bytes.rest.now
 stepped (Err f) = Err f

@@ -6,7 +6,9 @@ use Rattle.model.specs.declared.Exchange.{Exchange}
 use Rattle.model.specs.declared.Cause.{Cause}
 use Rattle.model.specs.declared.Cause.TheVariants.{ListFull}
 use Rattle.model.specs.declared.Command.{Command}
-use Rattle.model.specs.Verdict.{State, Test, Finding, Clean, Faulty, own_tests, after}
+use Rattle.model.specs.Verdict.{State, Test, Finding, Clean, Faulty, own_tests, first, after}
+use Rattle.records.specs.Records.{held}
+use Rattle.records.specs.declared.list.List.{List as Listed}
 use Rattle.plan.specs.declared.track.Track.{Track}
 
 abbrev pub whole : Track → List Exchange → State
@@ -18,10 +20,14 @@ whole t xs = record {
   boundary = t.boundary;
   waits = t.waits;
   landing = t.landing;
-  marks = t.marks;
-  idle = t.idle;
+  marks = t.places.marks;
+  idle = t.places.idle;
   records = xs;
 }
+
+-- the state that a track and the list have reached
+abbrev pub reached : Track → Listed Exchange → State
+reached t list = whole t (held list.len list.slots.now)
 
 -- the tests of a command's own, on this sheet
 abbrev pub tests_for : Side → Sheet → ℕ → State → Command → List Test
@@ -30,6 +36,10 @@ tests_for side sheet room s c = own_tests side sheet.rack.homes sheet.rack.frame
 -- what a command that passes makes of the state
 abbrev pub after_for : Side → Sheet → ℕ → State → Command → State
 after_for side sheet room s c = after side sheet.rack.homes sheet.rack.frames sheet.rack.fetch sheet.requests room s c
+
+-- what its own tests find
+abbrev pub finding : Side → Sheet → ℕ → State → Command → Finding
+finding side sheet room s c = first (tests_for side sheet room s c)
 
 -- what a command answers, and what it leaves: a refused one changes nothing
 abbrev pub answered : Finding → Result (Unit {0}) Cause
@@ -45,3 +55,6 @@ if_room false (Ok x) = Err ListFull
 abbrev pub left_by : State → State → Finding → State
 left_by s t Clean = t
 left_by s t (Faulty c) = s
+
+abbrev pub left_for : Side → Sheet → ℕ → State → Command → State
+left_for side sheet room s c = left_by s (after_for side sheet room s c) (finding side sheet room s c)

@@ -1,11 +1,11 @@
 // Whether a command may stand where it stands: the limit, its letter, and its bytes.
-ghost use Rattle.std.specs.Prelude.{◌≡◌, ◌≤◌};
-ghost use Rattle.model.specs.Verdict.{in_place, is_over, size, within_limit};
-ghost use Rattle.plan.specs.Admitted.{admitted, command_admitted, stray, told_of};
-ghost use Rattle.plan.specs.Fronts.{found_of};
+ghost use Rattle.std.specs.Prelude.{◌≡◌, ◌-◌, ◌≤◌, length};
+ghost use Rattle.model.specs.Verdict.{in_place, is_over, place_of, size, within_limit};
+ghost use Rattle.plan.specs.Admitted.{admitted_of, command_admitted, stray, told_of};
 
 use crate::fault::PlanFault;
-use crate::front::Found;
+use crate::front::NoCommand;
+use crate::reader::PlanReader;
 use crate::track::Track;
 use model::{Cause, Command, Phase};
 
@@ -14,9 +14,7 @@ const LIMIT: usize = 1_048_576;
 
 // How many bytes a command has.
 pub(crate) fn size_of(command: Command) -> usize
-    ensures bytes { result ≡ size command }
-    ensures few { result ≤ 5 }
-    ensures some { 1 ≤ result }
+    ensures { result ≡ size command }
 {
     match command {
         Command::Opens(_) => 3,
@@ -27,38 +25,45 @@ pub(crate) fn size_of(command: Command) -> usize
     }
 }
 
-// Whether a command of some bytes stays within the limit, where there are bytes past it.
-fn is_within_limit(total: usize, place: usize, bytes: usize) -> bool
-    requires { bytes ≤ 5 }
-    ensures { result ≡ within_limit total place bytes }
-{
-    total <= LIMIT || place <= LIMIT - bytes
-}
-
-// One byte that no command has there.
-fn stray_byte(total: usize, place: usize) -> Cause
-    ensures { result ≡ stray total place }
-{
-    if is_within_limit(total, place, 1) {
-        Cause::OutOfPlace
-    } else {
-        Cause::OverLimit
+impl PlanReader<'_> {
+    // Whether a command of some bytes stays within the limit, where there are bytes past it.
+    fn is_within_limit(self, bytes: usize) -> bool
+        ensures { result ≡ within_limit self.entry.bytes.total (self.entry.bytes.total - length self.entry.bytes.rest.now) bytes }
+    {
+        self.bytes.total <= LIMIT || self.place().saturating_add(bytes) <= LIMIT
     }
-}
 
-// A refusal told with its place: bytes that run out are told at the end of the bytes.
-pub(crate) fn told<T>(answer: Result<T, Cause>, total: usize, place: usize) -> Result<T, PlanFault>
-    ensures { result ≡ told_of total place answer }
-{
-    match answer {
-        Ok(value) => Ok(value),
-        Err(cause) => {
-            let place = if matches!(cause, Cause::RunsOut) {
-                total
-            } else {
-                place
-            };
-            Err(PlanFault { cause, place })
+    // Why one byte that no command has there is refused.
+    fn stray(self) -> Cause
+        ensures { result ≡ stray self.entry.bytes.total (self.entry.bytes.total - length self.entry.bytes.rest.now) }
+    {
+        if self.is_within_limit(1) {
+            Cause::OutOfPlace
+        } else {
+            Cause::OverLimit
+        }
+    }
+
+    // A refusal with its place: bytes that run out are told at the end of the bytes.
+    fn fault(self, cause: Cause) -> PlanFault
+        ensures { result ≡ record { cause = cause; place = place_of cause self.entry.bytes.total (self.entry.bytes.total - length self.entry.bytes.rest.now) } }
+    {
+        let place = if cause == Cause::RunsOut {
+            self.bytes.total
+        } else {
+            self.place()
+        };
+        PlanFault { cause, place }
+    }
+
+    // An answer whose refusal has its place.
+    pub(crate) fn told<T>(self, answer: Result<T, Cause>) -> Result<T, PlanFault>
+        ensures { result ≡ told_of self.entry.bytes.total (self.entry.bytes.total - length self.entry.bytes.rest.now) answer }
+    {
+        // a match: under `map_err` nothing is known of what the closure answers
+        match answer {
+            Ok(value) => Ok(value),
+            Err(cause) => Err(self.fault(cause)),
         }
     }
 }
@@ -68,12 +73,7 @@ impl Track {
     pub(crate) fn is_over(&self) -> bool
         ensures { result ≡ is_over self.now.phase }
     {
-        match self.phase {
-            Phase::Over => true,
-            Phase::Filling => false,
-            Phase::Standing => false,
-            Phase::Starting => false,
-        }
+        self.phase == Phase::Over
     }
 
     fn takes(&self, command: Command) -> bool
@@ -87,45 +87,33 @@ impl Track {
         }
     }
 
-    fn admit_command(
-        &self,
-        command: Command,
-        total: usize,
-        place: usize,
-        left: usize,
-    ) -> Result<Command, Cause>
-        ensures { result ≡ command_admitted self.now.phase command total place left }
+    fn admit_command(&self, command: Command, reader: PlanReader) -> Result<Command, Cause>
+        ensures { result ≡ command_admitted self.now.phase command reader.entry.bytes.total (reader.entry.bytes.total - length reader.entry.bytes.rest.now) (length reader.entry.bytes.rest.now) }
     {
         let bytes = size_of(command);
-        if !is_within_limit(total, place, bytes) {
+        if !reader.is_within_limit(bytes) {
             return Err(Cause::OverLimit);
         }
         if !self.takes(command) {
             return Err(Cause::OutOfPlace);
         }
-        if bytes > left {
+        if bytes > reader.left() {
             return Err(Cause::RunsOut);
         }
         Ok(command)
     }
 
-    // The command that stands there, with `left` bytes left, if it may.
-    pub(crate) fn admit(
-        &self,
-        found: Found,
-        total: usize,
-        place: usize,
-        left: usize,
-    ) -> Result<Command, Cause>
-        ensures { result ≡ admitted self.now.phase (found_of found) total place left }
+    // The command at the reader's place, if it may stand there.
+    pub(crate) fn admit(&self, reader: PlanReader) -> Result<Command, Cause>
+        ensures { result ≡ admitted_of self.now.phase reader.entry.bytes.total reader.entry.bytes.rest.now }
     {
         if self.is_over() {
-            return Err(stray_byte(total, place));
+            return Err(reader.stray());
         }
-        match found {
-            Found::Missing => Err(Cause::RunsOut),
-            Found::Strange => Err(stray_byte(total, place)),
-            Found::Known(command) => self.admit_command(command, total, place, left),
+        match reader.command() {
+            Ok(command) => self.admit_command(command, reader),
+            Err(NoCommand::Missing) => Err(Cause::RunsOut),
+            Err(NoCommand::Strange) => Err(reader.stray()),
         }
     }
 }

@@ -7,27 +7,14 @@ ghost use Rattle.plan.specs.Steps.{verdict_for};
 
 use crate::counts::Counts;
 use crate::fault::PlanFault;
-use crate::side::{Lane, Side};
+use crate::side::Side;
 use crate::verdict::judge;
 use model::Exchange;
 use records::List;
 use sheet::Sheet;
 
-fn settle<S: Lane>(
-    sheet: Sheet,
-    plan: &[u8],
-    list: &mut List<Exchange>,
-) -> Result<Counts, PlanFault>
-    requires { list.old.len ≡ 0 }
-    ensures answer { answer_of result ≡ (verdict_for S.Lane.side (meant sheet.entry) (length list.old.slots.now) plan.now).answer }
-    ensures slots { list.new.slots.now ≡ written_over (verdict_for S.Lane.side (meant sheet.entry) (length list.old.slots.now) plan.now).records list.old.slots.now }
-    ensures exact { ChecksExactly S.Lane.side (meant sheet.entry) (length list.old.slots.now) plan.now }
-    ensures lent { list.new.slots.ghost_name ≡ list.old.slots.ghost_name }
-{
-    judge::<S>(sheet, plan, list)
-}
-
 // Reads a plan against a sheet. Its exchanges go into the slots, from the first one on; no other slot is changed.
+#[tactic(auto, using(crate::proofs::Exactness::answer_is, crate::proofs::Exactness::slots_are, crate::proofs::Exactness::exact_on))]
 pub fn check<S: Side>(
     sheet: Sheet,
     plan: &[u8],
@@ -38,5 +25,5 @@ pub fn check<S: Side>(
     ensures exact { ChecksExactly S.Lane.side (meant sheet.entry) (length slots.old) plan.now }
 {
     let mut list = List::new(slots);
-    settle::<S>(sheet, plan, &mut list)
+    judge::<S>(sheet, plan, &mut list)
 }

@@ -5,40 +5,42 @@ ghost use Rattle.plan.specs.Fronts.{found_of};
 
 use model::Command;
 
-// Nothing, a letter that no command has, or a command, its missing bytes read as zeros.
-#[derive(Clone, Copy)]
-pub(crate) enum Found {
+// Why no command stands there.
+#[derive(Clone, Copy, Debug, PartialEq, Eq)]
+pub(crate) enum NoCommand {
+    // no byte is left
     Missing,
+    // a letter that no command has
     Strange,
-    Known(Command),
 }
 
 // A byte of a slice, 0 past its end.
 fn byte_at(bytes: &[u8], i: usize) -> u8
     ensures { result ≡ slice_index bytes.now i }
 {
-    if i < bytes.len() { bytes[i] } else { 0 }
+    bytes.get(i).copied().unwrap_or(0)
 }
 
 // The block number at two bytes, the low one first.
 fn block_at(bytes: &[u8], low: usize, high: usize) -> u16
     ensures { result ≡ slice_index bytes.now low + 256 * slice_index bytes.now high }
 {
-    u16::from(byte_at(bytes, low)) + 256 * u16::from(byte_at(bytes, high))
+    u16::from_le_bytes([byte_at(bytes, low), byte_at(bytes, high)])
 }
 
-pub(crate) fn front(rest: &[u8]) -> Found
+// The command whose letter stands there, its missing bytes read as zeros.
+pub(crate) fn front(rest: &[u8]) -> Result<Command, NoCommand>
     ensures { found_of result ≡ found rest.now }
 {
     let [letter, ..] = rest else {
-        return Found::Missing;
+        return Err(NoCommand::Missing);
     };
     match char::from(*letter) {
-        'O' => Found::Known(Command::Opens(block_at(rest, 1, 2))),
-        'X' => Found::Known(Command::Trades(block_at(rest, 1, 2), block_at(rest, 3, 4))),
-        'S' => Found::Known(Command::Serves),
-        'W' => Found::Known(Command::Waits),
-        'E' => Found::Known(Command::Ends),
-        _ => Found::Strange,
+        'O' => Ok(Command::Opens(block_at(rest, 1, 2))),
+        'X' => Ok(Command::Trades(block_at(rest, 1, 2), block_at(rest, 3, 4))),
+        'S' => Ok(Command::Serves),
+        'W' => Ok(Command::Waits),
+        'E' => Ok(Command::Ends),
+        _ => Err(NoCommand::Strange),
     }
 }

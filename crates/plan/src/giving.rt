@@ -15,7 +15,9 @@ use model::Exchange;
 use sheet::Sheet;
 
 impl<'a> Receipt<'a> {
-    fn give(sheet: Sheet<'a>, plan: &'a [u8], slots: &mut [Exchange]) -> Self
+    // Checks a plan forward. Its exchanges go into the slots, from the first one on; no other slot is changed.
+    #[tactic(auto, using(crate::proofs::Exactness::receipt_good))]
+    pub fn new(sheet: Sheet<'a>, plan: &'a [u8], slots: &mut [Exchange]) -> Self
         ensures answer { answer_of result.answer ≡ (verdict_for ForwardSide (meant sheet.entry) (length slots.old) plan.now).answer }
         ensures slots { slots.new ≡ written_over (verdict_for ForwardSide (meant sheet.entry) (length slots.old) plan.now).records slots.old }
         ensures exact { ChecksExactly ForwardSide (meant sheet.entry) (length slots.old) plan.now }
@@ -28,17 +30,6 @@ impl<'a> Receipt<'a> {
             plan,
             answer,
         }
-    }
-
-    // Checks a plan forward. Its exchanges go into the slots, from the first one on; no other slot is changed.
-    pub fn new(sheet: Sheet<'a>, plan: &'a [u8], slots: &mut [Exchange]) -> Self
-        ensures answer { answer_of result.answer ≡ (verdict_for ForwardSide (meant sheet.entry) (length slots.old) plan.now).answer }
-        ensures slots { slots.new ≡ written_over (verdict_for ForwardSide (meant sheet.entry) (length slots.old) plan.now).records slots.old }
-        ensures exact { ChecksExactly ForwardSide (meant sheet.entry) (length slots.old) plan.now }
-        ensures sheet { meant result.sheet ≡ meant sheet.entry }
-        ensures plan { result.plan.now ≡ plan.now }
-    {
-        Self::give(sheet, plan, slots)
     }
 
     // The plan's counts, or why and where it was refused.

@@ -1,11 +1,12 @@
 // What a command that passes makes of the track.
-ghost use Rattle.std.specs.Prelude.{◌≡◌, ℕ, ◌<◌, ◌≤◌, List as ListOf};
+ghost use Rattle.std.specs.Prelude.{◌≡◌, ℕ, ◌<◌, List as ListOf};
+ghost use Rattle.model.specs.PlanBytes.{plan_limit};
 ghost use Rattle.model.specs.declared.Exchange.{Exchange as Trade};
 ghost use Rattle.plan.specs.Noted.{started, waited_on};
 ghost use Rattle.plan.specs.Tracks.{whole};
 
 use crate::track::Track;
-use model::{Exchange, Mark, Phase};
+use model::{Exchange, Phase};
 
 impl Track {
     // An exchange that starts at the boundary reached.
@@ -21,21 +22,20 @@ impl Track {
 
     // Its block out is gone from this step on, its block in is here once it lands, and until then its disk is busy.
     pub(crate) fn note_trade(&mut self, exchange: Exchange, disk: u8, fetch: u8)
-        requires { (self.old.boundary ≤ 1048576) × ((fetch ≤ 64) × ((disk < 8) × ((exchange.brings < 1024) × (exchange.sends < 1024)))) }
         ensures { (xs : ListOf Trade) → whole self.new xs ≡ started (whole self.old xs) exchange.brings exchange.sends disk fetch }
     {
         let start = self.boundary;
-        let landing = start + fetch as u32;
+        let landing = start + u32::from(fetch);
         self.phase = Phase::Starting;
         self.landing = landing;
-        self.marks[exchange.sends as usize] = Mark::Away(start + 1);
-        self.marks[exchange.brings as usize] = Mark::Here(landing);
-        self.idle[disk as usize] = landing;
+        self.places.leave(exchange.sends, start + 1);
+        self.places.arrive(exchange.brings, landing);
+        self.places.occupy(disk, landing);
     }
 
     // One step more, that serves nothing.
     pub(crate) fn note_wait(&mut self)
-        requires { self.old.boundary ≤ 1048576 }
+        requires { self.old.boundary < plan_limit }
         ensures { (xs : ListOf Trade) → whole self.new xs ≡ waited_on (whole self.old xs) }
     {
         self.phase = Phase::Standing;

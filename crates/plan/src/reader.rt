@@ -4,60 +4,55 @@ ghost use Rattle.model.specs.Verdict.{found, size};
 ghost use Rattle.plan.specs.Fronts.{found_of};
 
 use crate::admitting::size_of;
-use crate::front::{Found, front};
+use crate::front::{NoCommand, front};
+use commands::Reader;
 use model::Command;
 
-// What is left of a plan's bytes, and how many there were: the place is how far the reader has come.
+// The plan's bytes from its place on, and how many there were: the place is how far the check has come.
 #[derive(Clone, Copy)]
 pub(crate) struct PlanReader<'a> {
-    pub(crate) total: usize,
-    pub(crate) rest: &'a [u8],
+    pub(crate) bytes: Reader<'a>,
 }
 
 impl<'a> PlanReader<'a> {
     // Before the first command.
     pub(crate) fn new(bytes: &'a [u8]) -> Self
-        ensures total { result.total ≡ length bytes.now }
-        ensures rest { result.rest.now ≡ bytes.now }
+        ensures total { result.bytes.total ≡ length bytes.now }
+        ensures rest { result.bytes.rest.now ≡ bytes.now }
     {
         PlanReader {
-            total: bytes.len(),
-            rest: bytes,
+            bytes: Reader::new(bytes),
         }
     }
 
     // Where the next command begins.
     pub(crate) fn place(self) -> usize
-        requires { length self.rest.now ≤ self.total }
-        ensures { result ≡ self.entry.total - length self.entry.rest.now }
+        ensures { result ≡ self.entry.bytes.total - length self.entry.bytes.rest.now }
     {
-        self.total - self.rest.len()
+        self.bytes.place()
     }
 
     // How many bytes are left.
     pub(crate) fn left(self) -> usize
-        ensures { result ≡ length self.entry.rest.now }
+        ensures { result ≡ length self.entry.bytes.rest.now }
     {
-        self.rest.len()
+        self.bytes.rest.len()
     }
 
-    // What stands at the place.
-    pub(crate) fn found(self) -> Found
-        ensures { found_of result ≡ found self.entry.rest.now }
+    // The command at the place.
+    pub(crate) fn command(self) -> Result<Command, NoCommand>
+        ensures { found_of result ≡ found self.entry.bytes.rest.now }
     {
-        front(self.rest)
+        front(self.bytes.rest)
     }
 
-    // The reader past a command that is whole.
+    // The reader past a command.
     pub(crate) fn past(self, command: Command) -> Self
-        requires { size command ≤ length self.rest.now }
-        ensures total { result.total ≡ self.entry.total }
-        ensures rest { result.rest.now ≡ drop (size command) self.entry.rest.now }
+        ensures total { result.bytes.total ≡ self.entry.bytes.total }
+        ensures rest { result.bytes.rest.now ≡ drop (size command) self.entry.bytes.rest.now }
     {
-        let (_, rest) = self.rest.split_at(size_of(command));
         PlanReader {
-            total: self.total,
-            rest,
+            bytes: self.bytes.past(size_of(command)),
         }
     }
 }

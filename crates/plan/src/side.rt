@@ -7,7 +7,7 @@ ghost use Rattle.std.proofs.Common.{rules};
 use model::Exchange;
 
 // A side as a value.
-#[derive(Clone, Copy)]
+#[derive(Clone, Copy, Debug, PartialEq, Eq)]
 pub enum Heading {
     Forward,
     Backward,
@@ -28,10 +28,10 @@ pub trait Side: Lane {
     ghost across: { Self.Opposite.Lane.side ≡ opposite Self.Lane.side };
 }
 
-#[derive(Clone, Copy)]
+#[derive(Clone, Copy, Debug, PartialEq, Eq)]
 pub struct Forward;
 
-#[derive(Clone, Copy)]
+#[derive(Clone, Copy, Debug, PartialEq, Eq)]
 pub struct Backward;
 
 impl Lane for Forward {

@@ -1,9 +1,10 @@
-ghost use Rattle.std.specs.Prelude.{◌≡◌, ◌≤◌, length};
+ghost use Rattle.std.specs.Prelude.{◌≤◌};
+ghost use Rattle.model.specs.PlanBytes.{plan_limit};
 
-use model::{Mark, Phase};
+use crate::places::Places;
+use model::Phase;
 
-// Where a plan has come, but for its exchanges, which go into the caller's list. Marks stand for where blocks and disks are, so that
-// nothing is to be done when a boundary is reached.
+// Where a plan has come, but for its exchanges, which go into the caller's list.
 #[derive(Clone, Copy)]
 pub(crate) struct Track {
     pub(crate) phase: Phase,
@@ -13,9 +14,8 @@ pub(crate) struct Track {
     pub(crate) boundary: u32,
     pub(crate) waits: u32,
     pub(crate) landing: u32,
-    pub(crate) marks: [Mark; 1024],
-    pub(crate) idle: [u32; 8],
-    ghost block_marks: { length marks ≡ 1024 },
-    ghost disk_marks: { length idle ≡ 8 },
+    pub(crate) places: Places,
     ghost some_wait: { waits ≤ boundary },
+    // a plan has no more steps than bytes
+    ghost few_steps: { boundary ≤ plan_limit },
 }

@@ -1,7 +1,8 @@
 // The commands of a plan, one after the other, to its end.
-ghost use Rattle.std.specs.Prelude.{◌≡◌, ℕ, List as ListOf, length, drop};
+ghost use Rattle.std.specs.Prelude.{◌≡◌, ℕ, List as ListOf, length};
 ghost use Rattle.model.specs.declared.Exchange.{Exchange as Trade};
 ghost use Rattle.model.specs.Verdict.{finished};
+ghost use Rattle.records.specs.Pushed.{OnlyPushed};
 ghost use Rattle.records.specs.Records.{held};
 ghost use Rattle.sheet.specs.Sheets.{meant};
 ghost use Rattle.plan.specs.Checks.{outcome_of};
@@ -20,7 +21,7 @@ use sheet::Sheet;
 impl Track {
     // Whether the end was read and no byte is left.
     fn is_finished(&self, reader: PlanReader) -> bool
-        ensures { (xs : ListOf Trade) → result ≡ finished (whole self.now xs) reader.entry.rest.now }
+        ensures { (xs : ListOf Trade) → result ≡ finished (whole self.now xs) reader.entry.bytes.rest.now }
     {
         self.is_over() && reader.left() == 0
     }
@@ -34,9 +35,7 @@ pub(crate) fn judge<S: Lane>(
 ) -> Result<Counts, PlanFault>
     requires { list.old.len ≡ 0 }
     ensures outcome { outcome_of result (held list.new.len list.new.slots.now) ≡ verdict_for S.Lane.side (meant sheet.entry) (length list.old.slots.now) bytes.now }
-    ensures room { length list.new.slots.now ≡ length list.old.slots.now }
-    ensures later { drop list.new.len list.new.slots.now ≡ drop list.new.len list.old.slots.now }
-    ensures lent { list.new.slots.ghost_name ≡ list.old.slots.ghost_name }
+    ensures pushed { OnlyPushed list.old list.new }
 {
     let mut track = Track::new();
     let mut reader = PlanReader::new(bytes);

@@ -1,10 +1,6 @@
-ghost use Rattle.std.specs.Prelude.{◌≡◌, length};
-
 // The index of next uses: for each block its next use from the position reached on, and for each position the next one of the same block. The number of requests stands for never.
 #[derive(Clone, Copy)]
 pub(crate) struct NextUses {
     pub(crate) next: [u16; 1024],
     pub(crate) after: [u16; 4096],
-    ghost blocks: { length next ≡ 1024 },
-    ghost positions: { length after ≡ 4096 },
 }

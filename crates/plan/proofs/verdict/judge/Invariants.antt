@@ -1,18 +1,19 @@
-use Rattle.std.proofs.Common.{◌≡◌, suc, ◌+◌, ◌≤◌, length, take, drop}
+use Rattle.std.proofs.Common.{◌≡◌, suc, ◌+◌, ◌≤◌, length}
+use Rattle.records.specs.Pushed.{OnlyPushed}
 use Rattle.sheet.specs.Sheets.{meant}
 use Rattle.plan.specs.Steps.{run_for, verdict_for}
-use Rattle.plan.specs.Tracks.{whole}
+use Rattle.plan.specs.Tracks.{reached}
 use Rattle.plan.proofs.verdict.judge.Given as goal
 
 -- the run from here on, with commands enough, comes to what the verdict says
 abbrev pub invariant-loop-reader : goal.invariant-loop-reader
 invariant-loop-reader g l =
-    (l.track.boundary + length l.reader.rest.now ≤ l.reader.total)
-    × (l.reader.total ≡ length l.bytes)
-    × (length l.list.slots.now ≡ length l.initial.list.slots.now)
-    × (drop l.list.len l.list.slots.now ≡ drop l.list.len l.initial.list.slots.now)
-    × (l.list.slots.ghost_name ≡ l.initial.list.slots.ghost_name)
-    × (run_for g.S.Lane.side (meant l.sheet) (length l.list.slots.now) (suc (length l.bytes)) l.reader.total (whole l.track (take l.list.len l.list.slots.now)) l.reader.rest.now ≡ verdict_for g.S.Lane.side (meant l.sheet) (length l.list.slots.now) l.bytes)
+    record {
+      steps : l.track.boundary + length l.reader.bytes.rest.now ≤ l.reader.bytes.total;
+      total : l.reader.bytes.total ≡ length l.bytes;
+      pushed : OnlyPushed l.initial.list l.list;
+      runs : run_for g.S.Lane.side (meant l.sheet) (length l.initial.list.slots.now) (suc (length l.bytes)) l.reader.bytes.total (reached l.track l.list) l.reader.bytes.rest.now ≡ verdict_for g.S.Lane.side (meant l.sheet) (length l.initial.list.slots.now) l.bytes;
+    }
 
 abbrev pub decreases-loop-reader : goal.decreases-loop-reader
-decreases-loop-reader g l = length l.reader.rest.now
+decreases-loop-reader g l = length l.reader.bytes.rest.now

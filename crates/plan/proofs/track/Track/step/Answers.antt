@@ -1,12 +1,10 @@
-use Rattle.std.proofs.Common.{ℕ, ◌-◌, ◌≤◌, length, take, Ok, Err, sym, refl, ap, ◌∙◌, arith, length-drop}
+use Rattle.std.proofs.Common.{◌-◌, ◌≤◌, length, Ok, Err, sym, ap, ◌∙◌, arith, length-drop}
 use Rattle.std.proofs.lemmas.Result.{err_from_is_err_and}
 use Rattle.model.specs.Verdict.{State, size}
 use Rattle.sheet.specs.Sheets.{meant}
-use Rattle.plan.specs.Admitted.{admitted, told_of}
 use Rattle.plan.specs.Steps.{step_answer, step_left, stepped}
-use Rattle.plan.specs.Tracks.{whole, left_by}
-use Rattle.plan.proofs.Stepped.{refused, lets, goes, faults, told_err, told_ok, small, one_step}
-use Rattle.plan.proofs.Traded.{faulty_by, clean_by}
+use Rattle.plan.specs.Tracks.{reached}
+use Rattle.plan.proofs.Stepped.{refused, lets, goes, faults, small, one_step}
 use Rattle.model.specs.declared.Command.{Command}
 use Rattle.model.specs.declared.Command.TheVariants.{Opens, Trades, Serves, Waits, Ends}
 use Rattle.plan.proofs.track.Track.step.Goals as goal
@@ -18,118 +16,112 @@ some_bytes Serves = omega arith
 some_bytes Waits = omega arith
 some_bytes Ends = omega arith
 
-pub place-place-requires : goal.place-place-requires
-place-place-requires g c = omega (arith, c.requires)
-
-pub take-answer-requires : goal.take-answer-requires
-take-answer-requires g c =
+pub returns-in_err-command-clause-answer : goal.returns-in_err-command-clause-answer
+returns-in_err-command-clause-answer g c =
     let l = c.args.list.now in
     let side = g.S.Lane.side in
     let sheet = meant c.args.sheet in
     let room = length l.slots.now in
-    let total = c.args.reader.total in
-    let rest = c.args.reader.rest.now in
-    let s = whole c.args.self.now (take l.len l.slots.now) in
-    let place = total - length rest in
-    let admits = c.admit.ensures ∙ (λ i. admitted s.phase (c.found-found.ensures i) total (c.place-place.ensures i) (c.left-left.ensures i)) in
-    let at = c.place-place.ensures in
-    let let-in = lets side sheet room total s rest c.in_ok-command.command (sym (told_ok total c.place-place.result c.admit.result _ c.in_ok-command.ensures) ∙ admits) in
-    let bytes = size c.in_ok-command.command in
-    small total place bytes s.boundary let-in.within (omega (arith, c.requires)) (omega (arith, c.requires, let-in.there))
-
-pub returns-in_err-command : goal.returns-in_err-command
-returns-in_err-command g c =
-    let l = c.args.list.now in
-    let side = g.S.Lane.side in
-    let sheet = meant c.args.sheet in
-    let room = length l.slots.now in
-    let total = c.args.reader.total in
-    let rest = c.args.reader.rest.now in
-    let s = whole c.args.self.now (take l.len l.slots.now) in
-    let place = total - length rest in
-    let admits = c.admit.ensures ∙ (λ i. admitted s.phase (c.found-found.ensures i) total (c.place-place.ensures i) (c.left-left.ensures i)) in
-    let at = c.place-place.ensures in
-    let why = told_err total place c.admit.result c.in_err-command.field-0.0 (c.in_err-command.ensures ∙ ap (λ (p : ℕ). told_of total p c.admit.result) at) in
-    let stop = refused side sheet room total s rest why.0 (sym why.1 ∙ admits) in
+    let total = c.args.reader.bytes.total in
+    let rest = c.args.reader.bytes.rest.now in
+    let s = reached c.args.self.now l in
+    let stop = refused side sheet room total s rest c.admit.result c.in_err-command.field-0.0 c.admit.ensures c.in_err-command.ensures in
     let residual = err_from_is_err_and c.from_residual.result c.from_residual.ensures.1 in
-    record {
-      answer = ap stepped residual.1 ∙ ap Err (residual.2 ∙ why.2) ∙ sym (ap step_answer stop);
-      after = sym (ap (step_left s) stop);
-      shorter = rw residual.1 tt;
-      room = refl;
-      grows = omega arith;
-      later = refl;
-      lent = refl;
-    }
+    ap stepped residual.1 ∙ ap Err residual.2 ∙ sym (ap step_answer stop)
 
-pub returns-in_err-told : goal.returns-in_err-told
-returns-in_err-told g c =
+pub returns-in_err-command-clause-after : goal.returns-in_err-command-clause-after
+returns-in_err-command-clause-after g c =
     let l = c.args.list.now in
     let side = g.S.Lane.side in
     let sheet = meant c.args.sheet in
     let room = length l.slots.now in
-    let total = c.args.reader.total in
-    let rest = c.args.reader.rest.now in
-    let s = whole c.args.self.now (take l.len l.slots.now) in
-    let place = total - length rest in
-    let admits = c.admit.ensures ∙ (λ i. admitted s.phase (c.found-found.ensures i) total (c.place-place.ensures i) (c.left-left.ensures i)) in
-    let at = c.place-place.ensures in
-    let let-in = lets side sheet room total s rest c.in_ok-command.command (sym (told_ok total c.place-place.result c.admit.result _ c.in_ok-command.ensures) ∙ admits) in
-    let why = told_err total place c.take-answer.result c.in_err-told.field-0.0 (c.in_err-told.ensures ∙ ap (λ (p : ℕ). told_of total p c.take-answer.result) at) in
-    let found = faulty_by _ why.0 (sym why.1 ∙ c.take-answer.ensures.answer) in
-    let stop = faults side sheet room total s rest c.in_ok-command.command why.0 let-in found in
-    let residual = err_from_is_err_and c.from_residual-in_err-told.result c.from_residual-in_err-told.ensures.1 in
-    record {
-      answer = ap stepped residual.1 ∙ ap Err (residual.2 ∙ why.2) ∙ sym (ap step_answer stop);
-      after = c.take-answer.ensures.after ∙ ap (left_by s _) found ∙ sym (ap (step_left s) stop);
-      shorter = rw residual.1 tt;
-      room = c.take-answer.ensures.room;
-      grows = c.take-answer.ensures.grows;
-      later = c.take-answer.ensures.later;
-      lent = c.take-answer.ensures.lent;
-    }
+    let total = c.args.reader.bytes.total in
+    let rest = c.args.reader.bytes.rest.now in
+    let s = reached c.args.self.now l in
+    sym (ap (step_left s) (refused side sheet room total s rest c.admit.result c.in_err-command.field-0.0 c.admit.ensures c.in_err-command.ensures))
 
-pub past-requires : goal.past-requires
-past-requires g c =
+pub take-requires : goal.take-requires
+take-requires g c =
     let l = c.args.list.now in
     let side = g.S.Lane.side in
     let sheet = meant c.args.sheet in
     let room = length l.slots.now in
-    let total = c.args.reader.total in
-    let rest = c.args.reader.rest.now in
-    let s = whole c.args.self.now (take l.len l.slots.now) in
-    let place = total - length rest in
-    let admits = c.admit.ensures ∙ (λ i. admitted s.phase (c.found-found.ensures i) total (c.place-place.ensures i) (c.left-left.ensures i)) in
-    let at = c.place-place.ensures in
-    let let-in = lets side sheet room total s rest c.in_ok-command.command (sym (told_ok total c.place-place.result c.admit.result _ c.in_ok-command.ensures) ∙ admits) in
-    let-in.there
-
-pub returns : goal.returns
-returns g c =
-    let l = c.args.list.now in
-    let side = g.S.Lane.side in
-    let sheet = meant c.args.sheet in
-    let room = length l.slots.now in
-    let total = c.args.reader.total in
-    let rest = c.args.reader.rest.now in
-    let s = whole c.args.self.now (take l.len l.slots.now) in
-    let place = total - length rest in
-    let admits = c.admit.ensures ∙ (λ i. admitted s.phase (c.found-found.ensures i) total (c.place-place.ensures i) (c.left-left.ensures i)) in
-    let at = c.place-place.ensures in
-    let let-in = lets side sheet room total s rest c.in_ok-command.command (sym (told_ok total c.place-place.result c.admit.result _ c.in_ok-command.ensures) ∙ admits) in
+    let total = c.args.reader.bytes.total in
+    let rest = c.args.reader.bytes.rest.now in
+    let s = reached c.args.self.now l in
     let command = c.in_ok-command.command in
-    let found = clean_by _ (sym (told_ok total c.place-place.result c.take-answer.result _ c.in_ok-told.ensures) ∙ c.take-answer.ensures.answer) in
-    let on = goes side sheet room total s rest command let-in found in
-    let after = c.take-answer.ensures.after ∙ ap (left_by s _) found in
-    let left = c.past.ensures.rest in
-    let count = ap length left ∙ length-drop (size command) rest in
-    let step = ap (λ (t : State). t.boundary) after in
-    record {
-      answer = ap Ok left ∙ sym (ap step_answer on);
-      after = after ∙ sym (ap (step_left s) on);
-      shorter = (omega (arith, count, let-in.there, some_bytes command), omega (arith, step, one_step side sheet room s command, count, let-in.there, some_bytes command, c.requires), c.past.ensures.total);
-      room = c.take-answer.ensures.room;
-      grows = c.take-answer.ensures.grows;
-      later = c.take-answer.ensures.later;
-      lent = c.take-answer.ensures.lent;
-    }
+    let let-in = lets side sheet room total s rest c.admit.result command c.admit.ensures c.in_ok-command.ensures in
+    small total (total - length rest) (size command) s.boundary let-in.within (some_bytes command) (omega (arith, c.requires)) (omega (arith, c.requires, let-in.there))
+
+pub returns-in_err-told-clause-answer : goal.returns-in_err-told-clause-answer
+returns-in_err-told-clause-answer g c =
+    let l = c.args.list.now in
+    let side = g.S.Lane.side in
+    let sheet = meant c.args.sheet in
+    let room = length l.slots.now in
+    let total = c.args.reader.bytes.total in
+    let rest = c.args.reader.bytes.rest.now in
+    let s = reached c.args.self.now l in
+    let command = c.in_ok-command.command in
+    let let-in = lets side sheet room total s rest c.admit.result command c.admit.ensures c.in_ok-command.ensures in
+    let stop = (faults side sheet room total s rest command let-in c.take.result c.take.ensures.answer _ c.take.ensures.after c.in_err-told.field-0.0 c.in_err-told.ensures).0 in
+    let residual = err_from_is_err_and c.from_residual-in_err-told.result c.from_residual-in_err-told.ensures.1 in
+    ap stepped residual.1 ∙ ap Err residual.2 ∙ sym (ap step_answer stop)
+
+pub returns-in_err-told-clause-after : goal.returns-in_err-told-clause-after
+returns-in_err-told-clause-after g c =
+    let l = c.args.list.now in
+    let side = g.S.Lane.side in
+    let sheet = meant c.args.sheet in
+    let room = length l.slots.now in
+    let total = c.args.reader.bytes.total in
+    let rest = c.args.reader.bytes.rest.now in
+    let s = reached c.args.self.now l in
+    let command = c.in_ok-command.command in
+    let let-in = lets side sheet room total s rest c.admit.result command c.admit.ensures c.in_ok-command.ensures in
+    let stop = faults side sheet room total s rest command let-in c.take.result c.take.ensures.answer _ c.take.ensures.after c.in_err-told.field-0.0 c.in_err-told.ensures in
+    stop.1 ∙ sym (ap (step_left s) stop.0)
+
+pub returns-clause-answer : goal.returns-clause-answer
+returns-clause-answer g c =
+    let l = c.args.list.now in
+    let side = g.S.Lane.side in
+    let sheet = meant c.args.sheet in
+    let room = length l.slots.now in
+    let total = c.args.reader.bytes.total in
+    let rest = c.args.reader.bytes.rest.now in
+    let s = reached c.args.self.now l in
+    let command = c.in_ok-command.command in
+    let let-in = lets side sheet room total s rest c.admit.result command c.admit.ensures c.in_ok-command.ensures in
+    let on = goes side sheet room total s rest command let-in c.take.result c.take.ensures.answer _ c.take.ensures.after c.in_ok-told.ensures in
+    ap Ok c.past.ensures.rest ∙ sym (ap step_answer on.0)
+
+pub returns-clause-after : goal.returns-clause-after
+returns-clause-after g c =
+    let l = c.args.list.now in
+    let side = g.S.Lane.side in
+    let sheet = meant c.args.sheet in
+    let room = length l.slots.now in
+    let total = c.args.reader.bytes.total in
+    let rest = c.args.reader.bytes.rest.now in
+    let s = reached c.args.self.now l in
+    let command = c.in_ok-command.command in
+    let let-in = lets side sheet room total s rest c.admit.result command c.admit.ensures c.in_ok-command.ensures in
+    let on = goes side sheet room total s rest command let-in c.take.result c.take.ensures.answer _ c.take.ensures.after c.in_ok-told.ensures in
+    on.1 ∙ sym (ap (step_left s) on.0)
+
+pub returns-clause-shorter : goal.returns-clause-shorter
+returns-clause-shorter g c =
+    let l = c.args.list.now in
+    let side = g.S.Lane.side in
+    let sheet = meant c.args.sheet in
+    let room = length l.slots.now in
+    let total = c.args.reader.bytes.total in
+    let rest = c.args.reader.bytes.rest.now in
+    let s = reached c.args.self.now l in
+    let command = c.in_ok-command.command in
+    let let-in = lets side sheet room total s rest c.admit.result command c.admit.ensures c.in_ok-command.ensures in
+    let on = goes side sheet room total s rest command let-in c.take.result c.take.ensures.answer _ c.take.ensures.after c.in_ok-told.ensures in
+    let count = ap length c.past.ensures.rest ∙ length-drop (size command) rest in
+    let step = ap (λ (t : State). t.boundary) on.1 in
+    (omega (arith, count, let-in.there, some_bytes command), omega (arith, step, one_step side sheet room s command, count, let-in.there, some_bytes command, c.requires), c.past.ensures.total)

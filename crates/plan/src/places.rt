@@ -1,0 +1,90 @@
+ghost use Rattle.std.specs.Prelude.{◌≡◌, nat_le, slice_index, slice_index_or, slice_set};
+ghost use Rattle.model.specs.Verdict.{blank_marks, blank_idle, is_here_at, is_away_at};
+ghost use Rattle.model.specs.declared.Mark.TheVariants.{Away, Here as At};
+
+use model::Mark;
+
+// Where blocks and disks are. A block is here or away from some boundary on, and a disk is idle from some boundary on, so that nothing
+// is to be done when a boundary is reached.
+#[derive(Clone, Copy, Debug, PartialEq, Eq)]
+pub struct Places {
+    pub(crate) marks: [Mark; 1024],
+    pub(crate) idle: [u32; 8],
+}
+
+// A slot written, if there is such a slot.
+#[tactic(auto, using(std::proofs::lemmas::List::set_past))]
+fn put<T: Copy>(slots: &mut [T], at: usize, value: T)
+    ensures { slots.new ≡ slice_set slots.old at value }
+{
+    if at < slots.len() {
+        slots[at] = value;
+    }
+}
+
+impl Places {
+    // Before the first command: each block is away, each disk is idle.
+    #[tactic(auto, unfolding(model::specs::Verdict::blank_marks, model::specs::Verdict::blank_idle))]
+    pub fn new() -> Self
+        ensures marks { result.marks ≡ blank_marks }
+        ensures idle { result.idle ≡ blank_idle }
+    {
+        Places {
+            marks: [Mark::Away(0); 1024],
+            idle: [0; 8],
+        }
+    }
+
+    // A block that does not exist is away.
+    fn mark(&self, block: u16) -> Mark
+        ensures { result ≡ slice_index_or self.now.marks block (Away 0) }
+    {
+        let mark = self.marks.get(usize::from(block)).copied();
+        mark.unwrap_or(Mark::Away(0))
+    }
+
+    // Whether a block can be served and sent out at a boundary.
+    pub fn is_here(&self, block: u16, boundary: u32) -> bool
+        ensures { result ≡ is_here_at (slice_index_or self.now.marks block (Away 0)) boundary }
+    {
+        matches!(self.mark(block), Mark::Here(from) if from <= boundary)
+    }
+
+    // Whether a block can be brought in at a boundary.
+    pub fn is_away(&self, block: u16, boundary: u32) -> bool
+        ensures { result ≡ is_away_at (slice_index_or self.now.marks block (Away 0)) boundary }
+    {
+        matches!(self.mark(block), Mark::Away(from) if from <= boundary)
+    }
+
+    // Whether a disk carries nothing at a boundary.
+    pub fn is_idle(&self, disk: u8, boundary: u32) -> bool
+        ensures { result ≡ nat_le (slice_index self.now.idle disk) boundary }
+    {
+        self.idle.get(usize::from(disk)).copied().unwrap_or(0) <= boundary
+    }
+
+    // A block is here from a boundary on.
+    pub fn arrive(&mut self, block: u16, from: u32)
+        ensures marks { self.new.marks ≡ slice_set self.old.marks block (At from) }
+        ensures idle { self.new.idle ≡ self.old.idle }
+    {
+        put(&mut self.marks, usize::from(block), Mark::Here(from));
+    }
+
+    // A block is away from a boundary on.
+    pub fn leave(&mut self, block: u16, from: u32)
+        ensures marks { self.new.marks ≡ slice_set self.old.marks block (Away from) }
+        ensures idle { self.new.idle ≡ self.old.idle }
+    {
+        put(&mut self.marks, usize::from(block), Mark::Away(from));
+    }
+
+    // A disk is idle again from a boundary on.
+    pub fn occupy(&mut self, disk: u8, until: u32)
+        ensures marks { self.new.marks ≡ self.old.marks }
+        ensures idle { self.new.idle ≡ slice_set self.old.idle disk until }
+    {
+        put(&mut self.idle, usize::from(disk), until);
+    }
+}

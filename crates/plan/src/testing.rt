@@ -1,0 +1,95 @@
+// Whether a command passes its own tests, in the order in which its faults are told.
+ghost use Rattle.std.specs.Prelude.{◌≡◌, ℕ, ◌<◌, ◌≤◌, List as ListOf, length, OnOk, MatchResult, nat_lt, slice_index};
+ghost use Rattle.model.specs.Timetable.{Side as Which};
+ghost use Rattle.model.specs.declared.Cause.TheVariants.{BadOpening};
+ghost use Rattle.model.specs.declared.Command.TheVariants.{Opens, Trades, Serves, Waits, Ends};
+ghost use Rattle.model.specs.declared.Exchange.{Exchange as Trade};
+ghost use Rattle.sheet.specs.Headers.{rack_of};
+ghost use Rattle.sheet.specs.Sheets.{meant};
+ghost use Rattle.plan.specs.Tracks.{whole, finding, answered, if_room};
+
+use crate::side::Lane;
+use crate::track::Track;
+use model::{Cause, Exchange};
+use sheet::{Rack, Sheet};
+
+// The disk of a block, 0 where there is no such block.
+pub(crate) fn home(rack: &Rack, block: u16) -> u8
+    ensures { result ≡ slice_index (rack_of rack.now).homes block }
+{
+    rack.disk_of(block).unwrap_or(0)
+}
+
+impl Track {
+    // `O`: there is a frame left and the block is above those before.
+    pub(crate) fn may_open(&self, sheet: Sheet, block: u16) -> Result<(), Cause>
+        ensures answer { (side : Which) (room : ℕ) (xs : ListOf Trade) → result ≡ answered (finding side (meant sheet.entry) room (whole self.now xs) (Opens block)) }
+        ensures few { OnOk result (self.now.opened < 64) }
+    {
+        let at = usize::from(block);
+        let rack = sheet.rack();
+        if self.opened >= usize::from(rack.frames()) || at < self.floor || at >= rack.blocks() {
+            return Err(Cause::BadOpening);
+        }
+        Ok(())
+    }
+
+    // `W`: the opening has as many blocks as there are frames, as every command after it needs.
+    pub(crate) fn may_wait(&self, sheet: Sheet) -> Result<(), Cause>
+        ensures { MatchResult result (λ _. self.now.opened ≡ (meant sheet.entry).rack.frames) (λ cause. (cause ≡ BadOpening) × (self.now.opened ≡ (meant sheet.entry).rack.frames → ⊥)) }
+    {
+        if self.opened != usize::from(sheet.rack().frames()) {
+            return Err(Cause::BadOpening);
+        }
+        Ok(())
+    }
+
+    // `S`: the block of the request at the position is here.
+    pub(crate) fn may_serve(&self, sheet: Sheet) -> Result<(), Cause>
+        ensures answer { (side : Which) (room : ℕ) (xs : ListOf Trade) → result ≡ answered (finding side (meant sheet.entry) room (whole self.now xs) Serves) }
+        ensures few { OnOk result (self.now.position < 4096) }
+    {
+        self.may_wait(sheet)?;
+        match sheet.request(self.position) {
+            Some(block) if self.places.is_here(block, self.boundary) => Ok(()),
+            _ => Err(Cause::CannotServe),
+        }
+    }
+
+    // `E`: all requests are served and all exchanges have landed.
+    pub(crate) fn may_end(&self, sheet: Sheet) -> Result<(), Cause>
+        ensures { (side : Which) (room : ℕ) (xs : ListOf Trade) → result ≡ answered (finding side (meant sheet.entry) room (whole self.now xs) Ends) }
+    {
+        self.may_wait(sheet)?;
+        if self.position != sheet.len() {
+            return Err(Cause::RequestsLeft);
+        }
+        if self.landing > self.boundary {
+            return Err(Cause::NotLanded);
+        }
+        Ok(())
+    }
+
+    // `X`: a block may come in for another, but for the room in the list.
+    pub(crate) fn may_trade<S: Lane>(&self, sheet: Sheet, exchange: Exchange) -> Result<(), Cause>
+        requires { exchange.start ≡ self.now.boundary }
+        ensures { (room : ℕ) (xs : ListOf Trade) → if_room (nat_lt (length xs) room) result ≡ answered (finding S.Lane.side (meant sheet.entry) room (whole self.now xs) (Trades exchange.brings exchange.sends)) }
+    {
+        self.may_wait(sheet)?;
+        let rack = sheet.rack();
+        let (brings, sends) = (exchange.brings, exchange.sends);
+        if usize::from(brings) >= rack.blocks() || !self.places.is_away(brings, self.boundary) {
+            return Err(Cause::BadIn);
+        }
+        if usize::from(sends) >= rack.blocks() || !self.places.is_here(sends, self.boundary) {
+            return Err(Cause::BadOut);
+        }
+        if !self
+            .places
+            .is_idle(home(rack, S::carrier(exchange)), self.boundary)
+        {
+            return Err(Cause::DiskBusy);
+        }
+        Ok(())
+    }
+}

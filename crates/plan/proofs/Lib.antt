@@ -1,5 +1,4 @@
 pub mod Exactness
-pub mod Fronts
 pub mod Looped
 pub mod Stepped
 pub mod Traded

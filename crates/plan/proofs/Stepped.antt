@@ -38,54 +38,53 @@ module _ (side : Side) (sheet : Sheet) (room total : ℕ) (s : State) (rest : Li
   stopped_at : (x : Cause) (f : PlanFault) → f ≡ record { cause = x; place = place_of x total (total - length rest) } → stopped x ≡ Stops f.cause f.place
   stopped_at x f e = ap (λ (g : PlanFault). Stops g.cause g.place) (sym e)
 
-  -- what follows from an admission, of whatever stands there
-  pub record Lets (f : Found) (t : Turn) (c : Command) : Type 0 where
-    pub known : f ≡ Known c
+  -- what follows from an admission
+  pub record Lets (t : Turn) (c : Command) : Type 0 where
     pub judged : t ≡ turned (Known c) (first (tests_for side sheet room s c))
     pub there : size c ≤ length rest
     pub within : within_limit total (total - length rest) (size c) ≡ true
 
-  abbrev Gives : Found → Turn → Result Command Cause → Type 0
-  Gives f t (Err x) = t ≡ stopped x
-  Gives f t (Ok c) = Lets f t c
+  abbrev Gives : Turn → Result Command Cause → Type 0
+  Gives t (Err x) = t ≡ stopped x
+  Gives t (Ok c) = Lets t c
 
   strays : (f : Found) (b : Bool) → turned f (first (test b OverLimit ∷ test false OutOfPlace ∷ [])) ≡ stopped (cond b OutOfPlace OverLimit)
   strays f true = refl
   strays f false = refl
 
-  knows : (c : Command) (w i z : Bool) → within_limit total (total - length rest) (size c) ≡ w → leb (size c) (length rest) ≡ z → Gives (Known c) (turned (Known c) (first (test w OverLimit ∷ test i OutOfPlace ∷ test z RunsOut ∷ tests_for side sheet room s c))) (cond w (cond i (cond z (Ok c) (Err RunsOut)) (Err OutOfPlace)) (Err OverLimit))
+  knows : (c : Command) (w i z : Bool) → within_limit total (total - length rest) (size c) ≡ w → leb (size c) (length rest) ≡ z → Gives (turned (Known c) (first (test w OverLimit ∷ test i OutOfPlace ∷ test z RunsOut ∷ tests_for side sheet room s c))) (cond w (cond i (cond z (Ok c) (Err RunsOut)) (Err OutOfPlace)) (Err OverLimit))
   knows c false i z e g = refl
   knows c true false z e g = refl
   knows c true true false e g = refl
-  knows c true true true e g = record { known = refl; judged = refl; there = leb-true (size c) (length rest) g; within = e }
+  knows c true true true e g = record { judged = refl; there = leb-true (size c) (length rest) g; within = e }
 
   abbrev tested : Phase → Found → List Test
   tested p f = tests_at side sheet.rack.homes sheet.rack.frames sheet.rack.fetch sheet.requests room s total rest p f
 
-  by_found : (f : Found) → Gives f (turned f (first (tests_of side sheet.rack.homes sheet.rack.frames sheet.rack.fetch sheet.requests room s total rest f))) (admit_found s.phase f total (total - length rest) (length rest))
+  by_found : (f : Found) → Gives (turned f (first (tests_of side sheet.rack.homes sheet.rack.frames sheet.rack.fetch sheet.requests room s total rest f))) (admit_found s.phase f total (total - length rest) (length rest))
   by_found Missing = refl
   by_found Strange = strays Strange (within_limit total (total - length rest) 1)
   by_found (Known c) = knows c (within_limit total (total - length rest) (size c)) (in_place s.phase c) (leb (size c) (length rest)) refl refl
 
-  by_phase : (p : Phase) (f : Found) → Gives f (turned f (first (tested p f))) (cond (is_over p) (Err (stray total (total - length rest))) (admit_found s.phase f total (total - length rest) (length rest)))
+  by_phase : (p : Phase) (f : Found) → Gives (turned f (first (tested p f))) (cond (is_over p) (Err (stray total (total - length rest))) (admit_found s.phase f total (total - length rest) (length rest)))
   by_phase Filling f = by_found f
   by_phase Standing f = by_found f
   by_phase Starting f = by_found f
   by_phase Over f = strays f (within_limit total (total - length rest) 1)
 
-  gives : Gives (found rest) (step_for side sheet room total s rest) (admitted_of s.phase total rest)
+  gives : Gives (step_for side sheet room total s rest) (admitted_of s.phase total rest)
   unfolding step
   gives = by_phase s.phase (found rest)
 
   pub refused : (r : Result Command Cause) (f : PlanFault) → r ≡ admitted_of s.phase total rest → Err f ≡ told_of total (total - length rest) r → step_for side sheet room total s rest ≡ Stops f.cause f.place
   refused r f e told =
       let why = told_err total (total - length rest) r f told in
-      subst (Gives (found rest) (step_for side sheet room total s rest)) (sym e ∙ why.1) gives ∙ stopped_at why.0 f why.2
+      subst (Gives (step_for side sheet room total s rest)) (sym e ∙ why.1) gives ∙ stopped_at why.0 f why.2
 
-  pub lets : (r : Result Command Cause) (c : Command) → r ≡ admitted_of s.phase total rest → Ok c ≡ told_of total (total - length rest) r → Lets (found rest) (step_for side sheet room total s rest) c
-  lets r c e told = subst (Gives (found rest) (step_for side sheet room total s rest)) (sym e ∙ told_ok total (total - length rest) r c told) gives
+  pub lets : (r : Result Command Cause) (c : Command) → r ≡ admitted_of s.phase total rest → Ok c ≡ told_of total (total - length rest) r → Lets (step_for side sheet room total s rest) c
+  lets r c e told = subst (Gives (step_for side sheet room total s rest)) (sym e ∙ told_ok total (total - length rest) r c told) gives
 
-  module _ (c : Command) (h : Lets (found rest) (step_for side sheet room total s rest) c) (r : Result (Unit {0}) Cause) (e : r ≡ answered (finding side sheet room s c)) (t : State) (left : t ≡ left_for side sheet room s c) where
+  module _ (c : Command) (h : Lets (step_for side sheet room total s rest) c) (r : Result (Unit {0}) Cause) (e : r ≡ answered (finding side sheet room s c)) (t : State) (left : t ≡ left_for side sheet room s c) where
     pub goes : Ok tt ≡ told_of total (total - length rest) r → (step_for side sheet room total s rest ≡ Goes (after_for side sheet room s c) (drop (size c) rest)) × (t ≡ after_for side sheet room s c)
     goes told =
         let found = clean_by _ (sym (told_ok total (total - length rest) r tt told) ∙ e) in

@@ -1,15 +1,14 @@
 -- An exchange started, or refused. Assumes nothing.
-use Rattle.std.proofs.Common.{◌≡◌, ℕ, ◌+◌, ◌<◌, Bool, ltb, List, [], ◌∷◌, ◌++◌, length, take, drop, set, Ok, Err, Result, sym, refl, ap, ◌∙◌, arith}
-use Rattle.std.proofs.lemmas.List.{take_more_set, drop-set-lt}
+use Rattle.std.proofs.Common.{◌≡◌, ℕ, ◌+◌, ◌<◌, Bool, ltb, List, [], ◌∷◌, ◌++◌, length, take, set, Ok, Err, Result, sym, refl, ap, ◌∙◌}
+use Rattle.std.proofs.lemmas.List.{take_more_set}
 use Rattle.model.specs.Sheet.{Sheet}
 use Rattle.model.specs.Timetable.{Side, occupies}
 use Rattle.model.specs.declared.Exchange.{Exchange}
 use Rattle.model.specs.declared.Command.TheVariants.{Trades}
 use Rattle.model.specs.declared.Cause.{Cause}
 use Rattle.model.specs.Verdict.{State, Finding, Clean, Faulty, after}
-use Rattle.plan.specs.declared.track.Track.{Track}
 use Rattle.plan.specs.Noted.{started}
-use Rattle.plan.specs.Tracks.{whole, answered, if_room, after_for, left_by}
+use Rattle.plan.specs.Tracks.{answered, if_room, after_for, left_by}
 
 pub faulty_by : (f : Finding) (e : Cause) → Err e ≡ answered f → f ≡ Faulty e
 faulty_by Clean e p = cc
@@ -27,19 +26,11 @@ kept_by f e s t p = sym (ap (left_by s t) (faulty_by f e p))
 pub made_by : (f : Finding) (s t u : State) → Ok tt ≡ answered f → u ≡ t → u ≡ left_by s t f
 made_by f s t u p e = e ∙ sym (ap (left_by s t) (clean_by f p))
 
-abbrev pub with_records : List Exchange → State → State
+abbrev with_records : List Exchange → State → State
 with_records xs s = record { phase = s.phase; opened = s.opened; floor = s.floor; position = s.position; boundary = s.boundary; waits = s.waits; landing = s.landing; marks = s.marks; idle = s.idle; records = xs }
 
--- a refused push keeps the state
-pub kept_state : (t : Track) (len len' : ℕ) (slots slots' : List Exchange) → len' ≡ len → slots' ≡ slots → whole t (take len' slots') ≡ whole t (take len slots)
-kept_state t len len' slots slots' p q = rw (p, q)
-
-module _ (len len' : ℕ) (slots slots' : List Exchange) (x : Exchange) (p : len' ≡ len + 1) (q : slots' ≡ set slots len x) (l : len < length slots) where
-  pub one_more : take len' slots' ≡ take len slots ++ x ∷ []
-  one_more = rw (p, q) (take_more_set slots len x l)
-
-  pub same_later : drop len' slots' ≡ drop len' slots
-  same_later = rw (p, q) (drop-set-lt (len + 1) slots len x (omega arith))
+pub one_more : (len len' : ℕ) (slots slots' : List Exchange) (x : Exchange) → len' ≡ len + 1 → slots' ≡ set slots len x → len < length slots → take len' slots' ≡ take len slots ++ x ∷ []
+one_more len len' slots slots' x p q l = rw (p, q) (take_more_set slots len x l)
 
 -- the answer with the list's own refusal
 pub with_room : (b : Bool) (xs : List Exchange) (n room : ℕ) (r : Result (Unit {0}) Cause) (f : Finding) → length xs ≡ n → ltb n room ≡ b → r ≡ Ok tt → if_room (ltb (length xs) room) r ≡ answered f → if_room b (Ok tt) ≡ answered f

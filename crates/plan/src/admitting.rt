@@ -76,9 +76,11 @@ impl Track {
         self.phase == Phase::Over
     }
 
+    // Whether a command's letter is in place.
     fn takes(&self, command: Command) -> bool
         ensures { result ≡ in_place self.now.phase command }
     {
+        // a row for each phase: one `matches!` over both would hide which commands each takes
         match self.phase {
             Phase::Filling => true,
             Phase::Standing => !matches!(command, Command::Opens(_)),

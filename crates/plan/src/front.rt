@@ -29,6 +29,7 @@ fn block_at(bytes: &[u8], low: usize, high: usize) -> u16
 }
 
 // The command whose letter stands there, its missing bytes read as zeros.
+#[tactic(auto, unfolding(model::specs::Verdict::found))]
 pub(crate) fn front(rest: &[u8]) -> Result<Command, NoCommand>
     ensures { found_of result ≡ found rest.now }
 {

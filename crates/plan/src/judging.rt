@@ -101,7 +101,7 @@ impl Track {
         Ok(())
     }
 
-    // A command that is in place and whole.
+    // A command that is in place and whole. What it asks holds from its admission to its end alone, so no value keeps it.
     pub(crate) fn take<S: Lane>(
         &mut self,
         sheet: Sheet,

@@ -51,6 +51,7 @@ impl Places {
     }
 
     // Whether a block can be brought in at a boundary.
+    // Like `is_here` but for its pattern, which no parameter can stand for.
     pub fn is_away(&self, block: u16, boundary: u32) -> bool
         ensures { result ≡ is_away_at (slice_index_or self.now.marks block (Away 0)) boundary }
     {

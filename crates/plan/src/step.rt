@@ -15,6 +15,7 @@ use sheet::Sheet;
 
 impl Track {
     // Judges the command at the reader's place. Answers the reader past it.
+    // Sheet and list stay two parameters: in one struct the list's loan would stand behind a second one in every clause.
     pub(crate) fn step<'a, S: Lane>(
         &mut self,
         sheet: Sheet,

@@ -12,10 +12,6 @@ returns-in_err-may_open c =
       after = λ side room xs. kept_by _ _ _ _ (c.in_err-may_open.ensures.answer side room xs);
     }
 
-pub returns : goal.returns
+pub returns-clause-after : goal.returns-clause-after
 unfolding after
-returns c =
-    record {
-      answer = λ side room xs. c.in_ok-may_open.ensures.answer side room xs;
-      after = λ side room xs. made_by _ _ _ _ (c.in_ok-may_open.ensures.answer side room xs) (search rules);
-    }
+returns-clause-after c = λ side room xs. made_by _ _ _ _ (c.in_ok-may_open.ensures.answer side room xs) (search rules)

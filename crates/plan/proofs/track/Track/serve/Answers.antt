@@ -12,10 +12,6 @@ returns-in_err-may_serve c =
       after = λ side room xs. kept_by _ _ _ _ (c.in_err-may_serve.ensures.answer side room xs);
     }
 
-pub returns : goal.returns
+pub returns-clause-after : goal.returns-clause-after
 unfolding after
-returns c =
-    record {
-      answer = λ side room xs. c.in_ok-may_serve.ensures.answer side room xs;
-      after = λ side room xs. made_by _ _ _ _ (c.in_ok-may_serve.ensures.answer side room xs) refl;
-    }
+returns-clause-after c = λ side room xs. made_by _ _ _ _ (c.in_ok-may_serve.ensures.answer side room xs) refl

@@ -1,4 +1,4 @@
-use Rattle.std.proofs.Common.{◌≡◌, ℕ, true, ltb, [], ◌∷◌, ◌++◌, length, get_or, take, Ok, sym, refl, ap, ◌∙◌, subst}
+use Rattle.std.proofs.Common.{◌≡◌, ℕ, true, ltb, [], ◌∷◌, ◌++◌, length, get_or, take, Ok, Err, sym, refl, ap, ◌∙◌, subst}
 use Rattle.std.proofs.lemmas.List.{length-take-le}
 use Rattle.std.proofs.lemmas.Bool.{cond-true, ltb-true}
 use Rattle.model.specs.Sheet.{Rack}
@@ -9,8 +9,16 @@ use Rattle.sheet.specs.Sheets.{meant}
 use Rattle.plan.specs.Noted.{started}
 use Rattle.plan.specs.Tracks.{whole, reached, finding, answered, if_room}
 use Rattle.records.proofs.Pushes.{room_by}
-use Rattle.plan.proofs.Traded.{made_by, one_more, with_room, started_is}
+use Rattle.plan.proofs.Traded.{kept_by, made_by, one_more, with_room, started_is}
 use Rattle.plan.proofs.track.Track.trade.Goals as goal
+
+pub returns-in_err-may_trade-clause-after : goal.returns-in_err-may_trade-clause-after
+returns-in_err-may_trade-clause-after g c =
+    let l = c.args.list.now in
+    let s = reached c.args.self.now l in
+    let e = c.in_err-may_trade.field-0.0 in
+    let judged = subst (λ (x : Exchange). Err e ≡ answered (finding g.S.Lane.side (meant c.args.sheet) (length l.slots.now) s (Trades x.brings x.sends))) c.exchange-exchange.ensures (c.in_err-may_trade.ensures (length l.slots.now) (take l.len l.slots.now)) in
+    kept_by _ e s _ judged
 
 pub returns-clause-after : goal.returns-clause-after
 returns-clause-after g c =

@@ -5,7 +5,12 @@ use Rattle.model.specs.declared.Cause.TheVariants.{RunsOut, OutOfPlace, OverLimi
 use Rattle.model.specs.declared.Command.{Command}
 use Rattle.model.specs.declared.Phase.{Phase}
 use Rattle.model.specs.Verdict.{Found, Missing, Strange, Known, found, size, in_place, is_over, within_limit, place_of}
+use Rattle.plan.specs.declared.reader.PlanReader.{PlanReader}
 use Rattle.plan.specs.Numbers.{PlanFault}
+
+-- the place of a reader in its plan
+abbrev pub place_in : PlanReader → ℕ
+place_in r = r.bytes.total - length r.bytes.rest.now
 
 -- one byte that no command has there
 abbrev pub stray : ℕ → ℕ → Cause

@@ -1,7 +1,7 @@
 // Whether a command may stand where it stands: the limit, its letter, and its bytes.
-ghost use Rattle.std.specs.Prelude.{◌≡◌, ◌-◌, ◌≤◌, length};
-ghost use Rattle.model.specs.Verdict.{in_place, is_over, place_of, size, within_limit};
-ghost use Rattle.plan.specs.Admitted.{admitted_of, command_admitted, stray, told_of};
+ghost use Rattle.std.specs.Prelude.{◌≡◌, ◌≤◌, length};
+ghost use Rattle.model.specs.Verdict.{in_place, is_over, size, within_limit};
+ghost use Rattle.plan.specs.Admitted.{admitted_of, command_admitted, place_in, stray, told_of};
 
 use crate::fault::PlanFault;
 use crate::front::NoCommand;
@@ -28,14 +28,14 @@ pub(crate) fn size_of(command: Command) -> usize
 impl PlanReader<'_> {
     // Whether a command of some bytes stays within the limit, where there are bytes past it.
     fn is_within_limit(self, bytes: usize) -> bool
-        ensures { result ≡ within_limit self.entry.bytes.total (self.entry.bytes.total - length self.entry.bytes.rest.now) bytes }
+        ensures { result ≡ within_limit self.entry.bytes.total (place_in self.entry) bytes }
     {
         self.bytes.total <= LIMIT || self.place().saturating_add(bytes) <= LIMIT
     }
 
     // Why one byte that no command has there is refused.
     fn stray(self) -> Cause
-        ensures { result ≡ stray self.entry.bytes.total (self.entry.bytes.total - length self.entry.bytes.rest.now) }
+        ensures { result ≡ stray self.entry.bytes.total (place_in self.entry) }
     {
         if self.is_within_limit(1) {
             Cause::OutOfPlace
@@ -44,27 +44,20 @@ impl PlanReader<'_> {
         }
     }
 
-    // A refusal with its place: bytes that run out are told at the end of the bytes.
-    fn fault(self, cause: Cause) -> PlanFault
-        ensures { result ≡ record { cause = cause; place = place_of cause self.entry.bytes.total (self.entry.bytes.total - length self.entry.bytes.rest.now) } }
-    {
-        let place = if cause == Cause::RunsOut {
-            self.bytes.total
-        } else {
-            self.place()
-        };
-        PlanFault { cause, place }
-    }
-
-    // An answer whose refusal has its place.
+    // An answer whose refusal has its place: bytes that run out are told at the end of the bytes.
     pub(crate) fn told<T>(self, answer: Result<T, Cause>) -> Result<T, PlanFault>
-        ensures { result ≡ told_of self.entry.bytes.total (self.entry.bytes.total - length self.entry.bytes.rest.now) answer }
+        ensures { result ≡ told_of self.entry.bytes.total (place_in self.entry) answer }
     {
-        // a match: under `map_err` nothing is known of what the closure answers
-        match answer {
-            Ok(value) => Ok(value),
-            Err(cause) => Err(self.fault(cause)),
-        }
+        let total = self.bytes.total;
+        let start = self.place();
+        answer.map_err(|cause| {
+            let place = if cause == Cause::RunsOut {
+                total
+            } else {
+                start
+            };
+            PlanFault { cause, place }
+        })
     }
 }
 
@@ -90,7 +83,7 @@ impl Track {
     }
 
     fn admit_command(&self, command: Command, reader: PlanReader) -> Result<Command, Cause>
-        ensures { result ≡ command_admitted self.now.phase command reader.entry.bytes.total (reader.entry.bytes.total - length reader.entry.bytes.rest.now) (length reader.entry.bytes.rest.now) }
+        ensures { result ≡ command_admitted self.now.phase command reader.entry.bytes.total (place_in reader.entry) (length reader.entry.bytes.rest.now) }
     {
         let bytes = size_of(command);
         if !reader.is_within_limit(bytes) {

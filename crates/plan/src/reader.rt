@@ -1,6 +1,7 @@
 // The reader of a plan: its bytes, with its place in them.
 ghost use Rattle.std.specs.Prelude.{◌≡◌, ◌-◌, ◌≤◌, length, drop};
 ghost use Rattle.model.specs.Verdict.{found, size};
+ghost use Rattle.plan.specs.Admitted.{place_in};
 ghost use Rattle.plan.specs.Fronts.{found_of};
 
 use crate::admitting::size_of;
@@ -27,7 +28,7 @@ impl<'a> PlanReader<'a> {
 
     // Where the next command begins.
     pub(crate) fn place(self) -> usize
-        ensures { result ≡ self.entry.bytes.total - length self.entry.bytes.rest.now }
+        ensures { result ≡ place_in self.entry }
     {
         self.bytes.place()
     }

@@ -9,9 +9,9 @@ ghost use Rattle.model.specs.declared.Exchange.{Exchange as Trade};
 ghost use Rattle.sheet.specs.Sheets.{meant};
 ghost use Rattle.plan.specs.Tracks.{whole, reached, finding, answered, left_for};
 
+use crate::passing::home;
 use crate::places::Places;
 use crate::side::Lane;
-use crate::testing::home;
 use crate::track::Track;
 use model::{Cause, Command, Exchange, Phase};
 use records::List;

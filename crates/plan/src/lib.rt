@@ -10,12 +10,12 @@ mod front;
 mod giving;
 mod judging;
 mod noting;
+mod passing;
 mod places;
 mod reader;
 mod receipt;
 mod side;
 mod step;
-mod testing;
 mod track;
 mod verdict;
 

@@ -1,6 +1,6 @@
 -- The check is exact on every sheet. Assumes nothing.
-use Rattle.std.proofs.Common.{◌≡◌, ℕ, ◌<◌, ◌≤◌, true, List, ◌++◌, length, get_or, take, drop, Ok, Err, Result, sym, refl, ap, ◌∙◌, arith, take-append-drop, length-take}
-use Rattle.std.proofs.lemmas.List.{length-take-le, get_or-take}
+use Rattle.std.proofs.Common.{◌≡◌, ℕ, ◌<◌, ◌≤◌, true, List, ◌++◌, length, get_or, take, drop, Ok, Err, Result, sym, refl, ap, ◌∙◌, arith, take-append-drop}
+use Rattle.std.proofs.lemmas.List.{length-take-le}
 use Rattle.std.proofs.lemmas.Bool.{eq-eqb}
 use Rattle.records.specs.Records.{written_over}
 use Rattle.model.specs.Sheet.{Sheet}
@@ -50,13 +50,11 @@ slots_are r len slots old o l e later =
 
 -- every rack is fit
 pub rack_fit : (rack : Rack) → Fit (rack_of rack).homes (rack_of rack).fetch
-rack_fit rack =
-    let few = length-take rack.blocks rack.homes in
-    record {
-      few = omega (arith, few, rack.few_blocks);
-      on_disks = λ b m. let here : b < rack.blocks = omega (arith, few, m) in rw (get_or-take rack.blocks rack.homes b 0 here) (omega (arith, rack.on_disks b here, rack.few_disks));
-      lasts = rack.some_time;
-    }
+rack_fit rack = record {
+  few = rack.fits.blocks.1;
+  on_disks = λ b m. omega (arith, rack.fits.homes b m, rack.fits.disks.1);
+  lasts = rack.fits.fetch.0;
+}
 
 pub exact_on : (side : Side) (sheet : Lent) (room : ℕ) (bytes : List ℕ) → ((i : ℕ) → i < length bytes → get_or bytes i 0 < 256) → ChecksExactly side (meant sheet) room bytes
 exact_on side sheet room bytes small = checks_exactly side (meant sheet) room bytes (rack_fit sheet.rack.now) small

@@ -52,10 +52,12 @@ impl Rack {
 
 impl<'a> Sheet<'a> {
     // The sixteen bytes of the name.
-    pub fn name(&self) -> &'a [u8; 16]
-        ensures { result.now ≡ (meant self.now).name }
+    pub fn name(&self) -> &'a [u8]
+        ensures name { result.now ≡ (meant self.now).name }
+        ensures sixteen { length result.now ≡ 16 }
     {
-        self.name // the sheet's own, whatever they are
+        let name = self.name;
+        name // always sixteen bytes
     }
 
     // The rack that the sheet is read from.

@@ -3,12 +3,13 @@ ghost use Rattle.model.specs.Verdict.{blank_marks, blank_idle, is_here_at, is_aw
 ghost use Rattle.model.specs.declared.Mark.TheVariants.{Away, Here as At};
 
 use model::Mark;
+use sheet::MOST_BLOCKS;
 
 // Where blocks and disks are. A block is here or away from some boundary on, and a disk is idle from some boundary on, so that nothing
 // is to be done when a boundary is reached.
 #[derive(Clone, Copy, Debug, PartialEq, Eq)]
 pub struct Places {
-    pub(crate) marks: [Mark; 1024],
+    pub(crate) marks: [Mark; MOST_BLOCKS],
     pub(crate) idle: [u32; 8],
 }
 
@@ -30,7 +31,7 @@ impl Places {
         ensures idle { result.idle ≡ blank_idle }
     {
         Places {
-            marks: [Mark::Away(0); 1024],
+            marks: [Mark::Away(0); MOST_BLOCKS],
             idle: [0; 8],
         }
     }

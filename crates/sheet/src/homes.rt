@@ -1,11 +1,13 @@
 ghost use Rattle.std.specs.Prelude.{◌≤◌};
 
+use crate::limits::MOST_BLOCKS;
+
 // The disk of each block, for at most 1,024 blocks.
 #[derive(Clone, Copy)]
 pub(crate) struct Homes {
     pub(crate) blocks: usize,
     // the disk of block b is at b; past the blocks nothing is meant
-    pub(crate) disks: [u8; 1024],
+    pub(crate) disks: [u8; MOST_BLOCKS],
     ghost few_blocks: { blocks ≤ 1024 },
 }
 
@@ -20,7 +22,7 @@ impl Homes {
     {
         Homes {
             blocks: 0,
-            disks: [0; 1024],
+            disks: [0; MOST_BLOCKS],
         }
     }
 

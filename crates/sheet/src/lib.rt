@@ -9,6 +9,7 @@ mod header;
 mod homes;
 mod keeping;
 mod letter;
+mod limits;
 mod questions;
 mod rack;
 mod reading;
@@ -20,6 +21,7 @@ mod taking;
 mod view;
 
 pub use fault::{SheetCause, SheetFault};
+pub use limits::{MOST_BLOCKS, MOST_REQUESTS};
 pub use rack::Rack;
 pub use result::SheetReading;
 pub use view::Sheet;

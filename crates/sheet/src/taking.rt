@@ -8,12 +8,9 @@ use crate::command::{Command, Geometry};
 use crate::draft::Draft;
 use crate::fault::{SheetCause, SheetFault};
 use crate::homes::Homes;
+use crate::limits::{MOST_BLOCKS, MOST_REQUESTS};
 use crate::stage::Stage;
 use records::List;
-
-const MOST_BLOCKS: usize = 1024;
-
-const MOST_REQUESTS: usize = 4096;
 
 impl Geometry {
     // Whether disks, frames and fetch time are within the limits.

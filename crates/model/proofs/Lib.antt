@@ -19,6 +19,7 @@ pub mod Picked
 pub mod Steady
 pub mod Reflected
 pub mod Mirroring
+pub mod MirrorWriting
 pub mod Twice
 pub mod Sizes
 pub mod Letters

@@ -5,4 +5,4 @@ use Rattle.backread.specs.declared.fault.Fault.{Fault}
 use Rattle.backread.specs.declared.fault.Fault.TheVariants.{Sheet}
 
 abbrev pub told : Fault → Refusal
-told (Sheet cause place) = refusal_of (record { cause = cause; place = place })
+told (Sheet fault) = refusal_of fault

@@ -3,14 +3,14 @@ ghost use Rattle.refusal.specs.Line.{line};
 ghost use Rattle.backread.specs.declared.fault.Fault.TheVariants.{Sheet};
 ghost use Rattle.backread.specs.Faults.{told};
 
-use refusal::{Layer, Refusal};
-use sheet::{SheetCause, SheetFault};
+use refusal::Refusal;
+use sheet::SheetFault;
 use std::fmt;
 
-// A refusal of any layer: its cause there, and the place where it has one.
-#[derive(Clone, Copy, Debug)]
+// A refusal of any layer, with its cause there and the place where it has one.
+#[derive(Clone, Copy, Debug, PartialEq, Eq)]
 pub enum Fault {
-    Sheet(SheetCause, usize),
+    Sheet(SheetFault),
 }
 
 impl Fault {
@@ -18,21 +18,17 @@ impl Fault {
     pub fn refusal(&self) -> Refusal
         ensures { result ≡ told self.now }
     {
-        match *self {
-            Fault::Sheet(cause, place) => Refusal {
-                number: cause.number(),
-                layer: Layer::Sheet,
-                place,
-            },
+        match self {
+            Fault::Sheet(fault) => fault.refusal(),
         }
     }
 }
 
 impl From<SheetFault> for Fault {
-    ghost from_gives = { λ f r. r ≡ Sheet f.cause f.place };
+    ghost from_gives = { λ f r. r ≡ Sheet f };
 
     fn from(fault: SheetFault) -> Fault {
-        Fault::Sheet(fault.cause, fault.place)
+        Self::Sheet(fault)
     }
 }
 

@@ -5,5 +5,5 @@
 mod fault;
 
 pub use fault::Fault;
-pub use refusal::{Layer, Refusal};
-pub use sheet::{Rack, Sheet, SheetCause, SheetFault, SheetReading};
+pub use refusal::{Cause, Layer, Refusal, Refused};
+pub use sheet::{MOST_BLOCKS, MOST_REQUESTS, Rack, Sheet, SheetCause, SheetFault, SheetReading};

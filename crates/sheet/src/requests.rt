@@ -3,7 +3,7 @@ ghost use Rattle.std.specs.Prelude.{◌≡◌, reverse, length};
 ghost use Rattle.std.specs.List.{slice_get};
 ghost use Rattle.sheet.specs.Orders.{in_order};
 
-// Turned requests are read from the far end.
+// Turned requests are read from the far end. A flag says it, since to turn is to negate.
 #[derive(Clone, Copy)]
 pub(crate) struct Requests<'a> {
     pub(crate) slots: &'a [u16],

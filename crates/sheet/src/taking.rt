@@ -1,5 +1,7 @@
 // How each command of a sheet is judged and taken into the draft.
-ghost use Rattle.std.specs.Prelude.{◌≡◌, ℕ, List as ListOf};
+ghost use Rattle.std.specs.Prelude.{◌≡◌, ℕ, List as ListOf, length, if◌then◌else◌, Ok, Err, nat_lt};
+ghost use Rattle.sheet.specs.declared.fault.SheetCause.TheVariants.{TooFewBlocks};
+ghost use Rattle.sheet.specs.Racks.{homes_of};
 ghost use Rattle.sheet.specs.Reading.{nothing_yet, named, within_limits, took_geometry, took_disk, took_request, took_end, took};
 ghost use Rattle.sheet.specs.Commands.{said};
 ghost use Rattle.sheet.specs.Drafts.{so_far, with_list, answered, placed_answer, left};
@@ -77,15 +79,23 @@ impl Draft {
         Ok(())
     }
 
+    // `R` and `E` need as many blocks as there are frames.
+    fn enough_blocks(&self) -> Result<(), SheetCause>
+        ensures { result ≡ (if nat_lt (length (homes_of self.now.homes)) self.now.geometry.frames then Err TooFewBlocks else Ok tt) }
+    {
+        if self.homes.len() < usize::from(self.geometry.frames) {
+            return Err(SheetCause::TooFewBlocks);
+        }
+        Ok(())
+    }
+
     // `R`: one request more, into the caller's list.
     fn take_request(&mut self, block: u16, list: &mut List<u16>) -> Result<(), SheetCause>
         ensures answer { result ≡ answered (took_request block (with_list self.old list.old)) }
         ensures after { with_list self.new list.new ≡ left (with_list self.old list.old) (took_request block (with_list self.old list.old)) }
         ensures lent { list.new.slots.ghost_name ≡ list.old.slots.ghost_name }
     {
-        if self.homes.len() < usize::from(self.geometry.frames) {
-            return Err(SheetCause::TooFewBlocks);
-        }
+        self.enough_blocks()?;
         if list.len() >= MOST_REQUESTS {
             return Err(SheetCause::TooMany);
         }
@@ -102,9 +112,7 @@ impl Draft {
         ensures answer { (count : ℕ) (slots : ListOf ℕ) → result ≡ answered (took_end (so_far self.old count slots)) }
         ensures after { (count : ℕ) (slots : ListOf ℕ) → so_far self.new count slots ≡ left (so_far self.old count slots) (took_end (so_far self.old count slots)) }
     {
-        if self.homes.len() < usize::from(self.geometry.frames) {
-            return Err(SheetCause::TooFewBlocks);
-        }
+        self.enough_blocks()?;
         self.stage = Stage::Nothing;
         Ok(())
     }

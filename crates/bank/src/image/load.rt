@@ -43,7 +43,7 @@ impl<'a> DiskBank<Recording<'a>> {
     }
 }
 
-// Limits are told before lengths.
+// Limits are told before lengths. Each store has a judge of its own: how many bytes are wanted can be said only once its own limits hold.
 #[tactic(auto, unfolding(crate::specs::RecordingLoad::recording_limits))]
 fn judge(recording: &[u8], disks: &[u8], fetch: u8) -> Result<(), BankFault>
     ensures { result ≡ recording_answer recording.now disks.now fetch }

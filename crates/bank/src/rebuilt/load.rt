@@ -49,7 +49,7 @@ impl<'a> DiskBank<Array<'a>> {
     }
 }
 
-// Limits are told before lengths.
+// Limits are told before lengths: how many rows there are divides by the disks.
 #[tactic(auto, using(crate::proofs::ArrayLoads::limits_some), unfolding(crate::specs::ArrayLoad::array_limits, crate::specs::ArrayLoad::array_answer))]
 fn judge(image: &[u8], layout: Layout, fetch: u8) -> Result<(), BankFault>
     ensures { result ≡ array_answer image.now layout fetch }

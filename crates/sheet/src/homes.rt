@@ -1,4 +1,4 @@
-ghost use Rattle.std.specs.Prelude.{◌≤◌};
+ghost use Rattle.std.specs.Prelude.{◌≡◌, ◌≤◌, length};
 
 use crate::limits::MOST_BLOCKS;
 
@@ -8,6 +8,8 @@ pub(crate) struct Homes {
     pub(crate) blocks: usize,
     // the disk of block b is at b; past the blocks nothing is meant
     pub(crate) disks: [u8; MOST_BLOCKS],
+    // a lemma about homes, outside any function, does not know the length from the array's type
+    ghost room: { length disks ≡ 1024 },
     ghost few_blocks: { blocks ≤ 1024 },
 }
 

@@ -10,6 +10,8 @@ pub struct Sheet<'a> {
     pub(crate) name: &'a [u8; 16],
     pub(crate) rack: &'a Rack,
     pub(crate) requests: Requests<'a>,
+    // a lemma about a sheet, outside any function, does not know the length from the array's type
+    ghost sixteen: { length name.now ≡ 16 },
     ghost few_requests: { length requests.slots.now ≤ 4096 },
     ghost known: { (i : ℕ) → i < length requests.slots.now → slice_index requests.slots.now i < length (homes_of rack.now.homes) },
 }

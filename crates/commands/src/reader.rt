@@ -1,7 +1,7 @@
 ghost use Rattle.std.specs.Prelude.{◌≡◌, ◌-◌, ◌≤◌, length, drop};
 
 // What is left of the bytes, and how many there were: the place is how far the reader has come.
-#[derive(Clone, Copy)]
+#[derive(Clone, Copy, Debug, PartialEq, Eq)]
 pub struct Reader<'a> {
     pub total: usize,
     pub rest: &'a [u8],
@@ -32,10 +32,9 @@ impl<'a> Reader<'a> {
         ensures total { result.total ≡ self.entry.total }
         ensures rest { result.rest.now ≡ drop size self.entry.rest.now }
     {
-        let (_, rest) = self.rest.split_at(size.min(self.rest.len()));
         Reader {
             total: self.total,
-            rest,
+            rest: self.rest.get(size..).unwrap_or(&[]),
         }
     }
 }

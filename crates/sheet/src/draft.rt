@@ -3,7 +3,7 @@ use crate::homes::Homes;
 use crate::stage::Stage;
 
 // What the commands of a sheet have said so far, but for the requests, which go into the caller's list.
-#[derive(Clone, Copy)]
+#[derive(Clone, Copy, Debug)]
 pub(crate) struct Draft {
     pub(crate) stage: Stage,
     pub(crate) name: [u8; 16],

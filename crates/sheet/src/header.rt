@@ -3,7 +3,7 @@ ghost use Rattle.std.specs.Prelude.{◌≤◌};
 use crate::rack::Rack;
 
 // What a sheet says besides the requests, and how many requests it has.
-#[derive(Clone, Copy)]
+#[derive(Clone, Copy, Debug)]
 pub(crate) struct Header {
     pub(crate) name: [u8; 16],
     pub(crate) rack: Rack,

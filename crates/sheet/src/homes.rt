@@ -3,7 +3,7 @@ ghost use Rattle.std.specs.Prelude.{◌≡◌, ◌≤◌, length};
 use crate::limits::MOST_BLOCKS;
 
 // The disk of each block, for at most 1,024 blocks.
-#[derive(Clone, Copy)]
+#[derive(Clone, Copy, Debug)]
 pub(crate) struct Homes {
     pub(crate) blocks: usize,
     // the disk of block b is at b; past the blocks nothing is meant
@@ -28,19 +28,26 @@ impl Homes {
         }
     }
 
+    // The disks of the blocks that there are.
+    fn used(&self) -> &[u8]
+        ensures { result.now ≡ homes_of self.now }
+    {
+        &self.disks[0..self.blocks]
+    }
+
     // How many blocks there are.
     pub(crate) fn len(&self) -> usize
         ensures blocks { result ≡ length (homes_of self.now) }
         ensures few { result ≤ 1024 }
     {
-        self.blocks // what stands past these means nothing
+        self.used().len()
     }
 
     // The disk of a block, if there is such a block.
     pub(crate) fn get(&self, block: usize) -> Option<u8>
         ensures { result ≡ slice_get (homes_of self.now) block }
     {
-        self.disks[0..self.blocks].get(block).copied()
+        self.used().get(block).copied()
     }
 
     // One block more, on this disk.

@@ -1,5 +1,5 @@
 // What a sheet and its rack tell.
-ghost use Rattle.std.specs.Prelude.{◌≡◌, ◌<◌, ◌≤◌, length, MatchOption};
+ghost use Rattle.std.specs.Prelude.{◌≡◌, ◌<◌, ◌≤◌, length, IfSome};
 ghost use Rattle.std.specs.List.{slice_get};
 ghost use Rattle.model.specs.Sheet.{turned};
 ghost use Rattle.sheet.specs.Headers.{rack_of};
@@ -44,7 +44,7 @@ impl Rack {
     // The disk of a block, if there is such a block.
     pub fn disk_of(&self, block: u16) -> Option<u8>
         ensures disk { result ≡ slice_get (rack_of self.now).homes block }
-        ensures low { MatchOption result (⊥ → ⊥) (λ d. d < 8) }
+        ensures low { IfSome result (λ d. d < 8) }
     {
         self.homes.get(usize::from(block))
     }
@@ -56,8 +56,9 @@ impl<'a> Sheet<'a> {
         ensures name { result.now ≡ (meant self.now).name }
         ensures sixteen { length result.now ≡ 16 }
     {
+        // Copied out first: what is sliced through `self` is lent for no longer than `self`.
         let name = self.name;
-        name // always sixteen bytes
+        &name[..]
     }
 
     // The rack that the sheet is read from.

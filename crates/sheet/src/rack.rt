@@ -5,7 +5,7 @@ use crate::command::Geometry;
 use crate::homes::Homes;
 
 // The rack: how many disks and frames, the fetch time, and the disk of each block. Always within the limits.
-#[derive(Clone, Copy)]
+#[derive(Clone, Copy, Debug)]
 pub struct Rack {
     pub(crate) geometry: Geometry,
     pub(crate) homes: Homes,

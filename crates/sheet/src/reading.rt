@@ -1,6 +1,7 @@
 // The commands of a sheet, one after the other, to its end.
 ghost use Rattle.std.specs.Prelude.{◌≡◌, ℕ, ◌<◌, ◌≤◌, List as ListOf, length, slice_index, IfOk};
 ghost use Rattle.model.specs.Sheet.{RackFits};
+ghost use Rattle.records.specs.Pushed.{OnlyPushed};
 ghost use Rattle.sheet.specs.Drafts.{so_far};
 ghost use Rattle.sheet.specs.Exact.{ReadsExactly, OneSheet};
 ghost use Rattle.sheet.specs.Headers.{sheet_of, outcome_of};
@@ -49,7 +50,7 @@ fn read_commands(bytes: &[u8], list: &mut List<u16>) -> Result<Header, SheetFaul
     ensures outcome { outcome_of result list.new.slots.now ≡ reading bytes.now list.old.slots.now }
     ensures room { IfOk result (λ h. h.requests ≤ length list.new.slots.now) }
     ensures known { IfOk result (λ h. (i : ℕ) → i < h.requests → slice_index list.new.slots.now i < length (homes_of h.rack.homes)) }
-    ensures lent { list.new.slots.ghost_name ≡ list.old.slots.ghost_name }
+    ensures pushed { OnlyPushed list.old list.new }
 {
     let mut draft = Draft::new();
     let mut reader = Reader::new(bytes);

@@ -1,5 +1,6 @@
 // One command of a sheet, from its letter to what it adds.
 ghost use Rattle.std.specs.Prelude.{◌≡◌, ◌-◌, ◌<◌, length, IfOk};
+ghost use Rattle.records.specs.Pushed.{OnlyPushed};
 ghost use Rattle.sheet.specs.Reading.{SoFar, turn, turn_answer, turn_left};
 ghost use Rattle.sheet.specs.Drafts.{with_list, stepped, goes_on};
 
@@ -42,7 +43,7 @@ impl Draft {
         ensures total { IfOk result (λ after. after.total ≡ reader.entry.total) }
         ensures shorter { IfOk result (λ after. length after.rest.now < length reader.entry.rest.now) }
         ensures after { with_list self.new list.new ≡ turn_left (with_list self.old list.old) (turn reader.entry.total reader.entry.rest.now (with_list self.old list.old)) }
-        ensures lent { list.new.slots.ghost_name ≡ list.old.slots.ghost_name }
+        ensures pushed { OnlyPushed list.old list.new }
     {
         let place = reader.place();
         let (command, after) = self.next(reader)?;

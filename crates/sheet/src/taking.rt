@@ -1,5 +1,6 @@
 // How each command of a sheet is judged and taken into the draft.
 ghost use Rattle.std.specs.Prelude.{◌≡◌, ℕ, List as ListOf, length, if◌then◌else◌, Ok, Err, nat_lt};
+ghost use Rattle.records.specs.Pushed.{OnlyPushed};
 ghost use Rattle.sheet.specs.declared.fault.SheetCause.TheVariants.{TooFewBlocks};
 ghost use Rattle.sheet.specs.Racks.{homes_of};
 ghost use Rattle.sheet.specs.Reading.{nothing_yet, named, within_limits, took_geometry, took_disk, took_request, took_end, took};
@@ -93,7 +94,7 @@ impl Draft {
     fn take_request(&mut self, block: u16, list: &mut List<u16>) -> Result<(), SheetCause>
         ensures answer { result ≡ answered (took_request block (with_list self.old list.old)) }
         ensures after { with_list self.new list.new ≡ left (with_list self.old list.old) (took_request block (with_list self.old list.old)) }
-        ensures lent { list.new.slots.ghost_name ≡ list.old.slots.ghost_name }
+        ensures pushed { OnlyPushed list.old list.new }
     {
         self.enough_blocks()?;
         if list.len() >= MOST_REQUESTS {
@@ -121,7 +122,7 @@ impl Draft {
     fn take(&mut self, command: Command, list: &mut List<u16>) -> Result<(), SheetCause>
         ensures answer { result ≡ answered (took (said command.entry) (with_list self.old list.old)) }
         ensures after { with_list self.new list.new ≡ left (with_list self.old list.old) (took (said command.entry) (with_list self.old list.old)) }
-        ensures lent { list.new.slots.ghost_name ≡ list.old.slots.ghost_name }
+        ensures pushed { OnlyPushed list.old list.new }
     {
         match command {
             Command::Name(name) => {
@@ -144,7 +145,7 @@ impl Draft {
     ) -> Result<(), SheetFault>
         ensures answer { result ≡ placed_answer place (took (said command.entry) (with_list self.old list.old)) }
         ensures after { with_list self.new list.new ≡ left (with_list self.old list.old) (took (said command.entry) (with_list self.old list.old)) }
-        ensures lent { list.new.slots.ghost_name ≡ list.old.slots.ghost_name }
+        ensures pushed { OnlyPushed list.old list.new }
     {
         self.take(command, list)
             .map_err(|cause| SheetFault { cause, place })

@@ -5,7 +5,7 @@ use crate::rack::Rack;
 use crate::requests::Requests;
 
 // A sheet that was read. The requests lie in the caller's slots; a turned sheet reads the same slots from the far end.
-#[derive(Clone, Copy)]
+#[derive(Clone, Copy, Debug)]
 pub struct Sheet<'a> {
     pub(crate) name: &'a [u8; 16],
     pub(crate) rack: &'a Rack,

@@ -1,5 +1,5 @@
 -- One command, by how it is judged. Assumes nothing.
-use Rattle.std.proofs.Common.{◌≡◌, ℕ, ◌-◌, ◌<◌, true, false, List, length, get_or, Some, None, Option, sym, ◌∙◌, arith}
+use Rattle.std.proofs.Common.{◌≡◌, ℕ, ◌-◌, ◌<◌, true, false, List, length, get_or, Some, None, Option, Ok, Err, Result, Bool, MatchResult, is_ok, sym, ap, subst, ◌∙◌, arith}
 use Rattle.std.specs.Option.{ok_or}
 use Rattle.std.proofs.lemmas.Bool.{eq-eqb, ne_eqb}
 use Rattle.sheet.specs.declared.fault.SheetCause.TheVariants.{RanOut, OutOfPlace}
@@ -38,3 +38,8 @@ module _ (total : ℕ) (rest : List ℕ) (s : SoFar) where
   pub turn_front : (g : Stage) (l : Letter) (o : Option (Command × Reader)) → 0 < length rest → s.stage ≡ g → takes g (get_or rest 0 0) ≡ true → byte_of l ≡ get_or rest 0 0 → parsed o ≡ front_by l rest → turn total rest s ≡ goes_on (total - length rest) s (ok_or o (fault RanOut total))
   turn_front g l None some e f b h = turn_broken some (rw e f) (front_is rest l b ∙ sym h)
   turn_front g l (Some p) some e f b h = turn_taken some (rw e f) (said p.0) p.1.rest.now (front_is rest l b ∙ sym h)
+
+-- what is known of a value that was granted, where a refusal is then told in another way
+pub granted : {A C E : Type 0} (r : Result A C) (told : Result A E) (x : A) (Told : C → Type 0) (Good : A → Type 0) (Bad : C → Type 0) → is_ok told ≡ is_ok r → MatchResult r (λ y. told ≡ Ok y) Told → told ≡ Ok x → MatchResult r Good Bad → Good x
+granted (Ok y) told x Told Good Bad same how is good = let e : y ≡ x = cc in subst Good e good
+granted (Err c) told x Told Good Bad same how is bad = let z : ◌≡◌ {A = Bool} true false = sym (ap is_ok is) ∙ same in let no : ◌≡◌ {A = ℕ} 0 1 = cc in absurd (omega arith)

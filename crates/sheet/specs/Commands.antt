@@ -62,6 +62,14 @@ front_of bytes =
     (cond (c == letter_r) (request_front bytes)
     (cond (c == letter_e) (end_front bytes) None))))
 
+-- how many bytes the command of a letter has, with its letter
+abbrev pub size_by : Letter → ℕ
+size_by letter.Name = 17
+size_by letter.Geometry = 4
+size_by letter.Disk = 2
+size_by letter.Request = 3
+size_by letter.End = 1
+
 -- the command of a letter
 abbrev pub front_by : Letter → List ℕ → Option (Said × List ℕ)
 front_by letter.Name bytes = name_front bytes

@@ -1,5 +1,5 @@
 -- What a draft and the caller's list say together, and what a command's answer is. Assumes nothing.
-use Rattle.std.specs.Prelude.{ℕ, List, Ok, Err, Result}
+use Rattle.std.specs.Prelude.{◌≡◌, ℕ, List, Ok, Err, Result}
 use Rattle.commands.specs.declared.reader.Reader.{Reader}
 use Rattle.records.specs.declared.list.List.{List as Listed}
 use Rattle.sheet.specs.declared.command.Command.{Command}
@@ -45,6 +45,11 @@ stepped (Err f) = Err f
 abbrev pub left : SoFar → Took → SoFar
 left s (kept t) = t
 left s (refused c) = s
+
+-- a draft took a command, or refused it and is as it was, whatever the caller's list holds
+pub record Takes (command : Command) (old : Draft) (answer : Result (Unit {0}) SheetCause) (new : Draft) : Type 0 where
+  pub answers : (count : ℕ) (slots : List ℕ) → answer ≡ answered (took (said command) (so_far old count slots))
+  pub leaves : (count : ℕ) (slots : List ℕ) → so_far new count slots ≡ left (so_far old count slots) (took (said command) (so_far old count slots))
 
 -- what a turn comes to, from the command that is found at this place and the reader past it, or from the refusal
 abbrev pub goes_on : ℕ → SoFar → Result (Command × Reader) SheetFault → Turn

@@ -1,5 +1,5 @@
 ghost use Rattle.std.specs.Prelude.{◌≡◌, ◌<◌, length, IfSome};
-ghost use Rattle.sheet.specs.Commands.{said, WholeName, parsed, front_by};
+ghost use Rattle.sheet.specs.Commands.{said, WholeName, parsed, front_by, size_by};
 
 use crate::letter::Letter;
 use commands::Reader;
@@ -22,6 +22,21 @@ pub enum Command<'a> {
     End,
 }
 
+impl Letter {
+    // How many bytes its command has.
+    fn size(self) -> usize
+        ensures { result ≡ size_by self }
+    {
+        match self {
+            Letter::Name => 17,
+            Letter::Geometry => 4,
+            Letter::Disk => 2,
+            Letter::Request => 3,
+            Letter::End => 1,
+        }
+    }
+}
+
 // The command with this letter at the front, and the reader past it. None where its bytes run out.
 pub(crate) fn front<'a>(letter: Letter, reader: Reader<'a>) -> Option<(Command<'a>, Reader<'a>)>
     ensures command { parsed result ≡ front_by letter reader.entry.rest.now }
@@ -29,24 +44,19 @@ pub(crate) fn front<'a>(letter: Letter, reader: Reader<'a>) -> Option<(Command<'
     ensures total { IfSome result (λ p. p.1.total ≡ reader.entry.total) }
     ensures shorter { IfSome result (λ p. length p.1.rest.now < length reader.entry.rest.now) }
 {
-    match (letter, reader.rest) {
-        (Letter::Name, [_, rest @ ..]) => {
-            Some((Command::Name(rest.first_chunk()?), reader.past(17)))
-        }
-        (Letter::Geometry, [_, disks, frames, fetch, ..]) => {
-            let geometry = Geometry {
-                disks: *disks,
-                frames: *frames,
-                fetch: *fetch,
-            };
-            Some((Command::Geometry(geometry), reader.past(4)))
-        }
-        (Letter::Disk, [_, disk, ..]) => Some((Command::Disk(*disk), reader.past(2))),
+    let command = match (letter, reader.rest) {
+        (Letter::Name, [_, rest @ ..]) => Command::Name(rest.first_chunk()?),
+        (Letter::Geometry, [_, disks, frames, fetch, ..]) => Command::Geometry(Geometry {
+            disks: *disks,
+            frames: *frames,
+            fetch: *fetch,
+        }),
+        (Letter::Disk, [_, disk, ..]) => Command::Disk(*disk),
         (Letter::Request, [_, low, high, ..]) => {
-            let block = u16::from_le_bytes([*low, *high]);
-            Some((Command::Request(block), reader.past(3)))
+            Command::Request(u16::from_le_bytes([*low, *high]))
         }
-        (Letter::End, [_, ..]) => Some((Command::End, reader.past(1))),
-        _ => None,
-    }
+        (Letter::End, [_, ..]) => Command::End,
+        _ => return None,
+    };
+    Some((command, reader.past(letter.size())))
 }

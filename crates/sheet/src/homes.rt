@@ -3,6 +3,9 @@ ghost use Rattle.std.specs.Prelude.{◌≡◌, ◌≤◌, length};
 use crate::limits::MOST_BLOCKS;
 
 // The disk of each block, for at most 1,024 blocks.
+// A count beside an array, with a list's methods: a rack is Copy, and neither a kit's vector over an array nor a list over slots is.
+// No model: a Copy type must be made again from its model, and the list of homes forgets what stands past the blocks.
+// Not PartialEq: what stands past the blocks would be compared too.
 #[derive(Clone, Copy, Debug)]
 pub(crate) struct Homes {
     pub(crate) blocks: usize,

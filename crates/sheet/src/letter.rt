@@ -21,6 +21,7 @@ impl TryFrom<u8> for Letter {
     ghost try_from_gives = { λ byte r. MatchResult r (λ letter. byte_of letter ≡ byte) (λ cause. BeginsNone byte × (cause ≡ NotInPlace)) };
 
     fn try_from(byte: u8) -> Result<Letter, SheetCause> {
+        // Matched as a char: the cases are to be written as the characters that a sheet is told in, and not as numbers.
         match char::from(byte) {
             'N' => Ok(Letter::Name),
             'G' => Ok(Letter::Geometry),

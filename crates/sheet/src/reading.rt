@@ -1,12 +1,12 @@
 // The commands of a sheet, one after the other, to its end.
-ghost use Rattle.std.specs.Prelude.{◌≡◌, ℕ, ◌<◌, ◌≤◌, List as ListOf, length, slice_index, IfOk};
+ghost use Rattle.std.specs.Prelude.{◌≡◌, ℕ, ◌<◌, ◌≤◌, ◌&&◌, ◌==◌, List as ListOf, length, slice_index, IfOk};
 ghost use Rattle.model.specs.Sheet.{RackFits};
 ghost use Rattle.records.specs.Pushed.{OnlyPushed};
 ghost use Rattle.sheet.specs.Drafts.{so_far};
 ghost use Rattle.sheet.specs.Exact.{ReadsExactly, OneSheet};
 ghost use Rattle.sheet.specs.Headers.{sheet_of, outcome_of};
 ghost use Rattle.sheet.specs.Racks.{homes_of, rack_with};
-ghost use Rattle.sheet.specs.Reading.{complete, sheet_said, reading};
+ghost use Rattle.sheet.specs.Reading.{is_nothing, sheet_said, reading};
 
 use crate::draft::Draft;
 use crate::fault::SheetFault;
@@ -19,7 +19,7 @@ use records::List;
 impl Draft {
     // Whether the end was read and no byte is left.
     fn is_complete(&self, reader: Reader) -> bool
-        ensures { (count : ℕ) (slots : ListOf ℕ) → result ≡ complete reader.entry.rest.now (so_far self.now count slots) }
+        ensures { result ≡ (is_nothing self.now.stage && (length reader.entry.rest.now == 0)) }
     {
         self.stage == Stage::Nothing && reader.rest.is_empty()
     }

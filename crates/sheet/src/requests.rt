@@ -25,6 +25,7 @@ impl<'a> Requests<'a> {
         if !self.turned {
             return slots.get(position).copied();
         }
+        // By place: `iter().nth_back(..)` would walk the requests before it.
         let last = slots.len().checked_sub(1)?;
         slots.get(last.checked_sub(position)?).copied()
     }

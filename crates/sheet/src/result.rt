@@ -11,6 +11,7 @@ use crate::header::Header;
 pub struct SheetReading<'a> {
     pub(crate) slots: &'a mut [u16],
     pub(crate) header: Header,
+    // beside the header, and not in one Result: `sheet` lends the blank sheet too, and it borrows it from here
     pub(crate) outcome: Result<(), SheetFault>,
     ghost enough_slots: { header.requests ≤ length slots.now },
     ghost known: { (i : ℕ) → i < header.requests → slice_index slots.now i < length (homes_of header.rack.homes) },

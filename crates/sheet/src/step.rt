@@ -27,10 +27,11 @@ impl Draft {
         let [byte, ..] = reader.rest else {
             return Err(ran_out);
         };
-        match self.stage.letter(*byte) {
-            Ok(letter) => front(letter, reader).ok_or(ran_out),
-            Err(cause) => Err(SheetFault { cause, place }),
-        }
+        let letter = self
+            .stage
+            .letter(*byte)
+            .map_err(|cause| SheetFault { cause, place })?;
+        front(letter, reader).ok_or(ran_out)
     }
 
     // Judges and takes the command at the front. Answers the reader past it.

@@ -1,11 +1,12 @@
 // How each command of a sheet is judged and taken into the draft.
 ghost use Rattle.std.specs.Prelude.{◌≡◌, ℕ, List as ListOf, length, if◌then◌else◌, Ok, Err, nat_lt};
 ghost use Rattle.records.specs.Pushed.{OnlyPushed};
+ghost use Rattle.sheet.specs.declared.command.Command.TheVariants as command;
 ghost use Rattle.sheet.specs.declared.fault.SheetCause.TheVariants.{TooFewBlocks};
 ghost use Rattle.sheet.specs.Racks.{homes_of};
-ghost use Rattle.sheet.specs.Reading.{nothing_yet, named, within_limits, took_geometry, took_disk, took_request, took_end, took};
+ghost use Rattle.sheet.specs.Reading.{nothing_yet, within_limits, took_request, took};
 ghost use Rattle.sheet.specs.Commands.{said};
-ghost use Rattle.sheet.specs.Drafts.{so_far, with_list, answered, placed_answer, left};
+ghost use Rattle.sheet.specs.Drafts.{so_far, with_list, Takes, answered, placed_answer, left};
 
 use crate::command::{Command, Geometry};
 use crate::draft::Draft;
@@ -45,7 +46,7 @@ impl Draft {
 
     // `N`: the sixteen bytes are kept.
     fn take_name(&mut self, name: &[u8; 16])
-        ensures { (count : ℕ) (slots : ListOf ℕ) → so_far self.new count slots ≡ named name.now (so_far self.old count slots) }
+        ensures { Takes (command.Name name.entry) self.old (Ok tt) self.new }
     {
         self.stage = Stage::Geometry;
         self.name = *name;
@@ -53,8 +54,7 @@ impl Draft {
 
     // `G`: refused outside the limits.
     fn take_geometry(&mut self, geometry: Geometry) -> Result<(), SheetCause>
-        ensures answer { (count : ℕ) (slots : ListOf ℕ) → result ≡ answered (took_geometry geometry.disks geometry.frames geometry.fetch (so_far self.old count slots)) }
-        ensures after { (count : ℕ) (slots : ListOf ℕ) → so_far self.new count slots ≡ left (so_far self.old count slots) (took_geometry geometry.disks geometry.frames geometry.fetch (so_far self.old count slots)) }
+        ensures { Takes (command.Geometry geometry) self.old result self.new }
     {
         if !geometry.is_within_limits() {
             return Err(SheetCause::OutsideLimits);
@@ -66,8 +66,7 @@ impl Draft {
 
     // `D`: one block more, on this disk.
     fn take_disk(&mut self, disk: u8) -> Result<(), SheetCause>
-        ensures answer { (count : ℕ) (slots : ListOf ℕ) → result ≡ answered (took_disk disk (so_far self.old count slots)) }
-        ensures after { (count : ℕ) (slots : ListOf ℕ) → so_far self.new count slots ≡ left (so_far self.old count slots) (took_disk disk (so_far self.old count slots)) }
+        ensures { Takes (command.Disk disk) self.old result self.new }
     {
         if self.homes.len() >= MOST_BLOCKS {
             return Err(SheetCause::TooMany);
@@ -110,8 +109,7 @@ impl Draft {
 
     // `E`: refused with fewer blocks than frames.
     fn take_end(&mut self) -> Result<(), SheetCause>
-        ensures answer { (count : ℕ) (slots : ListOf ℕ) → result ≡ answered (took_end (so_far self.old count slots)) }
-        ensures after { (count : ℕ) (slots : ListOf ℕ) → so_far self.new count slots ≡ left (so_far self.old count slots) (took_end (so_far self.old count slots)) }
+        ensures { Takes command.End self.old result self.new }
     {
         self.enough_blocks()?;
         self.stage = Stage::Nothing;

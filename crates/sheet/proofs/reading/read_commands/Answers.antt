@@ -28,7 +28,7 @@ loop-reader-preserved c =
     let l = c.loop-reader.list in
     let s = so_far c.loop-reader.draft l.len l.slots.now in
     let told = c.in_ok-reader.ensures in
-    let incomplete = sym (c.loop-reader-test.ensures l.len l.slots.now) in
+    let incomplete = sym c.loop-reader-test.ensures in
     let on = went_on (turn total rest s) s _ _ told.answer told.after in
     record {
       pushed = pushed_on _ _ _ c.loop-reader.invariant.pushed told.pushed;
@@ -42,7 +42,7 @@ header-requires c =
     let s = so_far c.loop-reader.draft l.len l.slots.now in
     let slots = c.args.list.now.slots.now in
     let bytes = c.args.bytes.now in
-    let done = leads_to_end c.loop-reader.reader.total c.loop-reader.reader.rest.now s _ (sym (c.loop-reader-test.ensures l.len l.slots.now)) c.loop-reader.invariant.leads in
+    let done = leads_to_end c.loop-reader.reader.total c.loop-reader.reader.rest.now s _ (sym c.loop-reader-test.ensures) c.loop-reader.invariant.leads in
     let all = told bytes slots (λ i. omega (arith, c.type_inv.bytes i)) in
     let fits = (subst (λ (o : Outcome). Told bytes slots o.verdict o.slots) done all).0 in
     let long = length-take-le l.len l.slots.now l.fits in
@@ -53,7 +53,7 @@ read_to_end : (c : goal.After-header) → outcome_of (Ok c.header.result) c.loop
 read_to_end c =
     let l = c.loop-reader.list in
     let s = so_far c.loop-reader.draft l.len l.slots.now in
-    let done = leads_to_end c.loop-reader.reader.total c.loop-reader.reader.rest.now s _ (sym (c.loop-reader-test.ensures l.len l.slots.now)) c.loop-reader.invariant.leads in
+    let done = leads_to_end c.loop-reader.reader.total c.loop-reader.reader.rest.now s _ (sym c.loop-reader-test.ensures) c.loop-reader.invariant.leads in
     let said = λ (xs : List ℕ). c.header.ensures.sheet xs ∙ ap (λ n. sheet_said (so_far c.loop-reader.draft n xs)) c.len.ensures in
     answer_ok c.header.result c.loop-reader.draft l.len l.slots.now _ said done
 
@@ -74,7 +74,7 @@ returns-in_err-reader-clause-outcome c =
     let l = c.loop-reader.list in
     let s = so_far c.loop-reader.draft l.len l.slots.now in
     let f = c.in_err-reader.field-0.0 in
-    let incomplete = sym (c.loop-reader-test.ensures l.len l.slots.now) in
+    let incomplete = sym c.loop-reader-test.ensures in
     let stop = was_stopped (turn total rest s) f c.in_err-reader.ensures.answer in
     let residual = err_from_is_err_and c.from_residual.result c.from_residual.ensures.1 in
     let kept = ap (λ (t : SoFar). t.slots) (c.step.ensures.after ∙ ap (turn_left s) stop) in

@@ -47,7 +47,7 @@ left s (kept t) = t
 left s (refused c) = s
 
 -- a draft took a command, or refused it and is as it was, whatever the caller's list holds
-pub record Takes (command : Command) (old : Draft) (answer : Result (Unit {0}) SheetCause) (new : Draft) : Type 0 where
+pub record Judged (command : Command) (old : Draft) (answer : Result (Unit {0}) SheetCause) (new : Draft) : Type 0 where
   pub answers : (count : ℕ) (slots : List ℕ) → answer ≡ answered (took (said command) (so_far old count slots))
   pub leaves : (count : ℕ) (slots : List ℕ) → so_far new count slots ≡ left (so_far old count slots) (took (said command) (so_far old count slots))
 

@@ -56,9 +56,7 @@ impl<'a> Sheet<'a> {
         ensures name { result.now ≡ (meant self.now).name }
         ensures sixteen { length result.now ≡ 16 }
     {
-        // Copied out first: what is sliced through `self` is lent for no longer than `self`.
-        let name = self.name;
-        &name[..]
+        self.name.as_slice()
     }
 
     // The rack that the sheet is read from.

@@ -4,6 +4,7 @@ ghost use Rattle.std.specs.List.{slice_get};
 ghost use Rattle.sheet.specs.Orders.{in_order};
 
 // Turned requests are read from the far end. A flag says it, since to turn is to negate.
+// Not PartialEq: requests read from the far end can be the same as others that are not, over other slots.
 #[derive(Clone, Copy, Debug)]
 pub(crate) struct Requests<'a> {
     pub(crate) slots: &'a [u16],

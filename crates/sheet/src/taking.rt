@@ -6,7 +6,7 @@ ghost use Rattle.sheet.specs.declared.fault.SheetCause.TheVariants.{TooFewBlocks
 ghost use Rattle.sheet.specs.Racks.{homes_of};
 ghost use Rattle.sheet.specs.Reading.{nothing_yet, within_limits, took_request, took};
 ghost use Rattle.sheet.specs.Commands.{said};
-ghost use Rattle.sheet.specs.Drafts.{so_far, with_list, Takes, answered, placed_answer, left};
+ghost use Rattle.sheet.specs.Drafts.{so_far, with_list, Judged, answered, placed_answer, left};
 
 use crate::command::{Command, Geometry};
 use crate::draft::Draft;
@@ -46,7 +46,7 @@ impl Draft {
 
     // `N`: the sixteen bytes are kept.
     fn take_name(&mut self, name: &[u8; 16])
-        ensures { Takes (command.Name name.entry) self.old (Ok tt) self.new }
+        ensures { Judged (command.Name name.entry) self.old (Ok tt) self.new }
     {
         self.stage = Stage::Geometry;
         self.name = *name;
@@ -54,7 +54,7 @@ impl Draft {
 
     // `G`: refused outside the limits.
     fn take_geometry(&mut self, geometry: Geometry) -> Result<(), SheetCause>
-        ensures { Takes (command.Geometry geometry) self.old result self.new }
+        ensures { Judged (command.Geometry geometry) self.old result self.new }
     {
         if !geometry.is_within_limits() {
             return Err(SheetCause::OutsideLimits);
@@ -66,7 +66,7 @@ impl Draft {
 
     // `D`: one block more, on this disk.
     fn take_disk(&mut self, disk: u8) -> Result<(), SheetCause>
-        ensures { Takes (command.Disk disk) self.old result self.new }
+        ensures { Judged (command.Disk disk) self.old result self.new }
     {
         if self.homes.len() >= MOST_BLOCKS {
             return Err(SheetCause::TooMany);
@@ -109,7 +109,7 @@ impl Draft {
 
     // `E`: refused with fewer blocks than frames.
     fn take_end(&mut self) -> Result<(), SheetCause>
-        ensures { Takes command.End self.old result self.new }
+        ensures { Judged command.End self.old result self.new }
     {
         self.enough_blocks()?;
         self.stage = Stage::Nothing;

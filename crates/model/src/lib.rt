@@ -21,6 +21,7 @@ pub struct Exchange {
 }
 
 // The commands of a plan: `O` with a block, `X` with the block in and the block out, `S`, `W` and `E`.
+// The two blocks of `X` have no names, because they stand in the order of a plan's bytes: the block in first.
 #[derive(Clone, Copy, Debug, PartialEq, Eq)]
 pub enum Command {
     Opens(u16),

@@ -1,5 +1,5 @@
 -- A track and the exchanges in the caller's list, as the state of the verdict; and the verdict's parts for a sheet. Assumes nothing.
-use Rattle.std.specs.Prelude.{ℕ, Bool, true, false, List, Ok, Err, Result}
+use Rattle.std.specs.Prelude.{◌≡◌, ℕ, Bool, true, false, List, Ok, Err, Result}
 use Rattle.model.specs.Sheet.{Sheet}
 use Rattle.model.specs.Timetable.{Side}
 use Rattle.model.specs.declared.Exchange.{Exchange}
@@ -58,3 +58,11 @@ left_by s t (Faulty c) = s
 
 abbrev pub left_for : Side → Sheet → ℕ → State → Command → State
 left_for side sheet room s c = left_by s (after_for side sheet room s c) (finding side sheet room s c)
+
+-- whatever the side, the room and the exchanges so far, a command's answer is what its own tests find
+abbrev pub Judges : Track → Sheet → Command → Result (Unit {0}) Cause → Type 0
+Judges t sheet c answer = (side : Side) (room : ℕ) (xs : List Exchange) → answer ≡ answered (finding side sheet room (whole t xs) c)
+
+-- whatever they are, the new track is what the command leaves of the old one
+abbrev pub Leaves : Track → Track → Sheet → Command → Type 0
+Leaves old new sheet c = (side : Side) (room : ℕ) (xs : List Exchange) → whole new xs ≡ left_for side sheet room (whole old xs) c

@@ -73,13 +73,18 @@ impl Track {
     fn takes(&self, command: Command) -> bool
         ensures { result ≡ in_place self.now.phase command }
     {
-        // a row for each phase: one `matches!` over both would hide which commands each takes
-        match self.phase {
-            Phase::Filling => true,
-            Phase::Standing => !matches!(command, Command::Opens(_)),
-            Phase::Starting => !matches!(command, Command::Opens(_) | Command::Ends),
-            Phase::Over => false,
-        }
+        matches!(
+            (self.phase, command),
+            (Phase::Filling, _)
+                | (
+                    Phase::Standing,
+                    Command::Trades(_, _) | Command::Serves | Command::Waits | Command::Ends
+                )
+                | (
+                    Phase::Starting,
+                    Command::Trades(_, _) | Command::Serves | Command::Waits
+                )
+        )
     }
 
     fn admit_command(&self, command: Command, reader: PlanReader) -> Result<Command, Cause>

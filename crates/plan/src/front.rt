@@ -36,6 +36,7 @@ pub(crate) fn front(rest: &[u8]) -> Result<Command, NoCommand>
     let [letter, ..] = rest else {
         return Err(NoCommand::Missing);
     };
+    // read as a character, because the letters are to stand in the code as characters
     match char::from(*letter) {
         'O' => Ok(Command::Opens(block_at(rest, 1, 2))),
         'X' => Ok(Command::Trades(block_at(rest, 1, 2), block_at(rest, 3, 4))),

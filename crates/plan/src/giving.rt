@@ -32,17 +32,17 @@ impl<'a> Receipt<'a> {
         }
     }
 
-    // The plan's counts, or why and where it was refused.
+    // The plan's counts, or why and where it was refused, whether the receipt is void or not.
     pub fn outcome(&self) -> Result<Counts, PlanFault>
         ensures { result ≡ self.now.answer }
     {
-        self.answer // whether void or not
+        self.answer
     }
 
     // Whether the check refused.
     pub fn is_void(&self) -> bool
         ensures { result ≡ is_err self.now.answer }
     {
-        self.answer.is_err()
+        self.outcome().is_err()
     }
 }

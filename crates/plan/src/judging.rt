@@ -1,19 +1,17 @@
 // How each command of a plan is judged and what it makes of the track.
-ghost use Rattle.std.specs.Prelude.{◌≡◌, ℕ, ◌<◌, List as ListOf, [], length};
+ghost use Rattle.std.specs.Prelude.{◌≡◌, ◌<◌, [], length};
 ghost use Rattle.records.specs.Pushed.{OnlyPushed};
 ghost use Rattle.model.specs.PlanBytes.{plan_limit};
-ghost use Rattle.model.specs.Timetable.{Side as Which};
 ghost use Rattle.model.specs.Verdict.{begin};
 ghost use Rattle.model.specs.declared.Command.TheVariants.{Opens, Trades, Serves, Waits, Ends};
-ghost use Rattle.model.specs.declared.Exchange.{Exchange as Trade};
 ghost use Rattle.sheet.specs.Sheets.{meant};
-ghost use Rattle.plan.specs.Tracks.{whole, reached, finding, answered, left_for};
+ghost use Rattle.plan.specs.Tracks.{whole, reached, finding, answered, left_for, Judges, Leaves};
 
 use crate::passing::home;
 use crate::places::Places;
 use crate::side::Lane;
 use crate::track::Track;
-use model::{Cause, Command, Exchange, Phase};
+use model::{Cause, Command, Exchange, Mark, Phase};
 use records::List;
 use sheet::Sheet;
 
@@ -36,22 +34,22 @@ impl Track {
 
     // `O`: one more block of the opening, above those before.
     fn open(&mut self, sheet: Sheet, block: u16) -> Result<(), Cause>
-        ensures answer { (side : Which) (room : ℕ) (xs : ListOf Trade) → result ≡ answered (finding side (meant sheet.entry) room (whole self.old xs) (Opens block)) }
-        ensures after { (side : Which) (room : ℕ) (xs : ListOf Trade) → whole self.new xs ≡ left_for side (meant sheet.entry) room (whole self.old xs) (Opens block) }
+        ensures answer { Judges self.old (meant sheet.entry) (Opens block) result }
+        ensures after { Leaves self.old self.new (meant sheet.entry) (Opens block) }
     {
         self.may_open(sheet, block)?;
         self.phase = Phase::Filling;
         self.opened += 1;
         self.floor = usize::from(block) + 1;
-        self.places.arrive(block, 0);
+        self.places.set(block, Mark::Here(0));
         Ok(())
     }
 
     // `S`: the request at the position is served.
     fn serve(&mut self, sheet: Sheet) -> Result<(), Cause>
         requires { self.old.boundary < plan_limit }
-        ensures answer { (side : Which) (room : ℕ) (xs : ListOf Trade) → result ≡ answered (finding side (meant sheet.entry) room (whole self.old xs) Serves) }
-        ensures after { (side : Which) (room : ℕ) (xs : ListOf Trade) → whole self.new xs ≡ left_for side (meant sheet.entry) room (whole self.old xs) Serves }
+        ensures answer { Judges self.old (meant sheet.entry) Serves result }
+        ensures after { Leaves self.old self.new (meant sheet.entry) Serves }
     {
         self.may_serve(sheet)?;
         self.phase = Phase::Standing;
@@ -63,8 +61,8 @@ impl Track {
     // `W`: one step more.
     fn wait(&mut self, sheet: Sheet) -> Result<(), Cause>
         requires { self.old.boundary < plan_limit }
-        ensures answer { (side : Which) (room : ℕ) (xs : ListOf Trade) → result ≡ answered (finding side (meant sheet.entry) room (whole self.old xs) Waits) }
-        ensures after { (side : Which) (room : ℕ) (xs : ListOf Trade) → whole self.new xs ≡ left_for side (meant sheet.entry) room (whole self.old xs) Waits }
+        ensures answer { Judges self.old (meant sheet.entry) Waits result }
+        ensures after { Leaves self.old self.new (meant sheet.entry) Waits }
     {
         self.may_wait(sheet)?;
         self.note_wait();
@@ -73,8 +71,8 @@ impl Track {
 
     // `E`: nothing may follow.
     fn end(&mut self, sheet: Sheet) -> Result<(), Cause>
-        ensures answer { (side : Which) (room : ℕ) (xs : ListOf Trade) → result ≡ answered (finding side (meant sheet.entry) room (whole self.old xs) Ends) }
-        ensures after { (side : Which) (room : ℕ) (xs : ListOf Trade) → whole self.new xs ≡ left_for side (meant sheet.entry) room (whole self.old xs) Ends }
+        ensures answer { Judges self.old (meant sheet.entry) Ends result }
+        ensures after { Leaves self.old self.new (meant sheet.entry) Ends }
     {
         self.may_end(sheet)?;
         self.phase = Phase::Over;

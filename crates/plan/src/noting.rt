@@ -6,7 +6,7 @@ ghost use Rattle.plan.specs.Noted.{started, waited_on};
 ghost use Rattle.plan.specs.Tracks.{whole};
 
 use crate::track::Track;
-use model::{Exchange, Phase};
+use model::{Exchange, Mark, Phase};
 
 impl Track {
     // An exchange that starts at the boundary reached.
@@ -28,8 +28,8 @@ impl Track {
         let landing = start + u32::from(fetch);
         self.phase = Phase::Starting;
         self.landing = landing;
-        self.places.leave(exchange.sends, start + 1);
-        self.places.arrive(exchange.brings, landing);
+        self.places.set(exchange.sends, Mark::Away(start + 1));
+        self.places.set(exchange.brings, Mark::Here(landing));
         self.places.occupy(disk, landing);
     }
 

@@ -1,12 +1,11 @@
 // Whether a command passes its own tests, in the order in which its faults are told.
 ghost use Rattle.std.specs.Prelude.{◌≡◌, ℕ, ◌<◌, ◌≤◌, List as ListOf, length, OnOk, MatchResult, nat_lt, slice_index};
-ghost use Rattle.model.specs.Timetable.{Side as Which};
 ghost use Rattle.model.specs.declared.Cause.TheVariants.{BadOpening};
 ghost use Rattle.model.specs.declared.Command.TheVariants.{Opens, Trades, Serves, Waits, Ends};
 ghost use Rattle.model.specs.declared.Exchange.{Exchange as Trade};
 ghost use Rattle.sheet.specs.Headers.{rack_of};
 ghost use Rattle.sheet.specs.Sheets.{meant};
-ghost use Rattle.plan.specs.Tracks.{whole, finding, answered, if_room};
+ghost use Rattle.plan.specs.Tracks.{whole, finding, answered, if_room, Judges};
 
 use crate::side::Lane;
 use crate::track::Track;
@@ -23,12 +22,12 @@ pub(crate) fn home(rack: &Rack, block: u16) -> u8
 impl Track {
     // `O`: there is a frame left and the block is above those before.
     pub(crate) fn may_open(&self, sheet: Sheet, block: u16) -> Result<(), Cause>
-        ensures answer { (side : Which) (room : ℕ) (xs : ListOf Trade) → result ≡ answered (finding side (meant sheet.entry) room (whole self.now xs) (Opens block)) }
+        ensures answer { Judges self.now (meant sheet.entry) (Opens block) result }
         ensures few { OnOk result (self.now.opened < 64) }
     {
         let at = usize::from(block);
         let rack = sheet.rack();
-        if self.opened >= usize::from(rack.frames()) || at < self.floor || at >= rack.blocks() {
+        if self.opened >= usize::from(rack.frames()) || !(self.floor..rack.blocks()).contains(&at) {
             return Err(Cause::BadOpening);
         }
         Ok(())
@@ -46,7 +45,7 @@ impl Track {
 
     // `S`: the block of the request at the position is here.
     pub(crate) fn may_serve(&self, sheet: Sheet) -> Result<(), Cause>
-        ensures answer { (side : Which) (room : ℕ) (xs : ListOf Trade) → result ≡ answered (finding side (meant sheet.entry) room (whole self.now xs) Serves) }
+        ensures answer { Judges self.now (meant sheet.entry) Serves result }
         ensures few { OnOk result (self.now.position < 4096) }
     {
         self.may_wait(sheet)?;
@@ -58,7 +57,7 @@ impl Track {
 
     // `E`: all requests are served and all exchanges have landed.
     pub(crate) fn may_end(&self, sheet: Sheet) -> Result<(), Cause>
-        ensures { (side : Which) (room : ℕ) (xs : ListOf Trade) → result ≡ answered (finding side (meant sheet.entry) room (whole self.now xs) Ends) }
+        ensures { Judges self.now (meant sheet.entry) Ends result }
     {
         self.may_wait(sheet)?;
         if self.position != sheet.len() {

@@ -1,6 +1,6 @@
 ghost use Rattle.std.specs.Prelude.{◌≡◌, nat_le, slice_index, slice_index_or, slice_set};
 ghost use Rattle.model.specs.Verdict.{blank_marks, blank_idle, is_here_at, is_away_at};
-ghost use Rattle.model.specs.declared.Mark.TheVariants.{Away, Here as At};
+ghost use Rattle.model.specs.declared.Mark.TheVariants.{Away};
 
 use model::Mark;
 use sheet::MOST_BLOCKS;
@@ -14,6 +14,7 @@ pub struct Places {
 }
 
 // A slot written, if there is such a slot.
+// Tested by hand, because a write through `get_mut` leaves goals that do not close.
 #[tactic(auto, using(std::proofs::lemmas::List::set_past))]
 fn put<T: Copy>(slots: &mut [T], at: usize, value: T)
     ensures { slots.new ≡ slice_set slots.old at value }
@@ -66,20 +67,12 @@ impl Places {
         self.idle.get(usize::from(disk)).copied().unwrap_or(0) <= boundary
     }
 
-    // A block is here from a boundary on.
-    pub fn arrive(&mut self, block: u16, from: u32)
-        ensures marks { self.new.marks ≡ slice_set self.old.marks block (At from) }
+    // A block is here, or away, from a boundary on.
+    pub fn set(&mut self, block: u16, mark: Mark)
+        ensures marks { self.new.marks ≡ slice_set self.old.marks block mark }
         ensures idle { self.new.idle ≡ self.old.idle }
     {
-        put(&mut self.marks, usize::from(block), Mark::Here(from));
-    }
-
-    // A block is away from a boundary on.
-    pub fn leave(&mut self, block: u16, from: u32)
-        ensures marks { self.new.marks ≡ slice_set self.old.marks block (Away from) }
-        ensures idle { self.new.idle ≡ self.old.idle }
-    {
-        put(&mut self.marks, usize::from(block), Mark::Away(from));
+        put(&mut self.marks, usize::from(block), mark);
     }
 
     // A disk is idle again from a boundary on.

@@ -1,4 +1,5 @@
 // The two sides. On the forward side an exchange occupies the disk of its block in, on the backward side that of its block out.
+// `Lane`, `Side` and `Headed` are three: an opposite that is a `Side` itself would be a bound without end, and a value is asked only of the sides that a program holds.
 ghost use Rattle.std.specs.Prelude.{◌≡◌};
 ghost use Rattle.model.specs.Timetable.{Side as Which, Forward as ForwardSide, Backward as BackwardSide, opposite, carrier};
 ghost use Rattle.plan.specs.Headings.{side_of};

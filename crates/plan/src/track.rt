@@ -5,7 +5,7 @@ use crate::places::Places;
 use model::Phase;
 
 // Where a plan has come, but for its exchanges, which go into the caller's list.
-#[derive(Clone, Copy)]
+#[derive(Clone, Copy, Debug)]
 pub(crate) struct Track {
     pub(crate) phase: Phase,
     pub(crate) opened: usize,

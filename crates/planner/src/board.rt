@@ -1,7 +1,7 @@
 use plan::Places;
 
 // How far a pass has come, and where blocks and disks are.
-#[derive(Clone, Copy)]
+#[derive(Clone, Copy, Debug)]
 pub(crate) struct Board {
     pub(crate) position: usize,
     pub(crate) boundary: u32,

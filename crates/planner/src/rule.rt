@@ -14,7 +14,7 @@ pub trait Rule {
     fn need(&self, view: View) -> Option<u16>
         ensures { Wants (shows view.entry) → result ≡ (answers self.now).need (shows view.entry) };
 
-    // For a free disk: a block in and a block out, or none.
+    // For a free disk: a block in and a block out, or none. A pair and no exchange, because its start is not the rule's to say.
     fn ahead(&self, view: View, disk: u8) -> Option<(u16, u16)>
         ensures { result ≡ (answers self.now).ahead (shows view.entry) disk };
 

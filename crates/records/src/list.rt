@@ -6,6 +6,7 @@ use crate::full::ListFull;
 
 // The first `len` slots are the list; the others keep what the caller left in them. The length stands beside the slots because
 // the slots are the caller's: no call of the library allocates.
+// A list has no model, because its callers' contracts name the loan that it holds, which a model would hide.
 #[derive(Drop)]
 pub struct List<'a, T> {
     slots: &'a mut [T],
@@ -39,6 +40,7 @@ impl<T: Copy> List<'_, T> {
         ensures slots { self.new.slots.now ≡ slice_set self.old.slots.now self.old.len value }
         ensures lent { self.new.slots.ghost_name ≡ self.old.slots.ghost_name }
     {
+        // tested by hand, because `get_mut(..).ok_or(..)` leaves goals that do not close
         if self.len >= self.slots.len() {
             return Err(ListFull);
         }

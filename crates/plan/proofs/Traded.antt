@@ -1,14 +1,17 @@
 -- An exchange started, or refused. Assumes nothing.
-use Rattle.std.proofs.Common.{◌≡◌, ℕ, ◌+◌, ◌<◌, Bool, ltb, List, [], ◌∷◌, ◌++◌, length, take, set, Ok, Err, Result, sym, refl, ap, ◌∙◌}
+use Rattle.std.proofs.Common.{◌≡◌, ℕ, ◌+◌, ◌<◌, Bool, ltb, List, [], ◌∷◌, ◌++◌, length, take, set, Ok, Err, Result, IsErrAnd, sym, refl, ap, ◌∙◌}
 use Rattle.std.proofs.lemmas.List.{take_more_set}
+use Rattle.std.proofs.lemmas.Result.{err_from_is_err_and}
 use Rattle.model.specs.Sheet.{Sheet}
 use Rattle.model.specs.Timetable.{Side, occupies}
 use Rattle.model.specs.declared.Exchange.{Exchange}
+use Rattle.model.specs.declared.Command.{Command}
 use Rattle.model.specs.declared.Command.TheVariants.{Trades}
 use Rattle.model.specs.declared.Cause.{Cause}
 use Rattle.model.specs.Verdict.{State, Finding, Clean, Faulty, after}
 use Rattle.plan.specs.Noted.{started}
-use Rattle.plan.specs.Tracks.{answered, if_room, after_for, left_by}
+use Rattle.plan.specs.Tracks.{whole, answered, if_room, after_for, left_by, Judges, Leaves}
+use Rattle.plan.specs.declared.track.Track.{Track}
 
 pub faulty_by : (f : Finding) (e : Cause) → Err e ≡ answered f → f ≡ Faulty e
 faulty_by Clean e p = cc
@@ -25,6 +28,15 @@ kept_by f e s t p = sym (ap (left_by s t) (faulty_by f e p))
 
 pub made_by : (f : Finding) (s t u : State) → Ok tt ≡ answered f → u ≡ t → u ≡ left_by s t f
 made_by f s t u p e = e ∙ sym (ap (left_by s t) (clean_by f p))
+
+pub refused_so : (t : Track) (sheet : Sheet) (c : Command) (r : Result (Unit {0}) Cause) (e : Cause) → Judges t sheet c (Err e) → IsErrAnd r (λ y. y ≡ e) → Judges t sheet c r
+refused_so t sheet c r e judged is = let told = err_from_is_err_and r is in rw told.1 (rw told.2 judged)
+
+pub kept_so : (t : Track) (sheet : Sheet) (c : Command) (e : Cause) → Judges t sheet c (Err e) → Leaves t t sheet c
+kept_so t sheet c e judged = record { left = λ side room xs. kept_by _ e _ _ (judged.found side room xs) }
+
+pub made_so : (t u : Track) (sheet : Sheet) (c : Command) → Judges t sheet c (Ok tt) → ((side : Side) (room : ℕ) (xs : List Exchange) → whole u xs ≡ after_for side sheet room (whole t xs) c) → Leaves t u sheet c
+made_so t u sheet c judged made = record { left = λ side room xs. made_by _ _ _ _ (judged.found side room xs) (made side room xs) }
 
 abbrev with_records : List Exchange → State → State
 with_records xs s = record { phase = s.phase; opened = s.opened; floor = s.floor; position = s.position; boundary = s.boundary; waits = s.waits; landing = s.landing; marks = s.marks; idle = s.idle; records = xs }

@@ -60,9 +60,9 @@ abbrev pub left_for : Side → Sheet → ℕ → State → Command → State
 left_for side sheet room s c = left_by s (after_for side sheet room s c) (finding side sheet room s c)
 
 -- whatever the side, the room and the exchanges so far, a command's answer is what its own tests find
-abbrev pub Judges : Track → Sheet → Command → Result (Unit {0}) Cause → Type 0
-Judges t sheet c answer = (side : Side) (room : ℕ) (xs : List Exchange) → answer ≡ answered (finding side sheet room (whole t xs) c)
+pub record Judges (t : Track) (sheet : Sheet) (c : Command) (answer : Result (Unit {0}) Cause) : Type 0 where
+  pub found : (side : Side) (room : ℕ) (xs : List Exchange) → answer ≡ answered (finding side sheet room (whole t xs) c)
 
 -- whatever they are, the new track is what the command leaves of the old one
-abbrev pub Leaves : Track → Track → Sheet → Command → Type 0
-Leaves old new sheet c = (side : Side) (room : ℕ) (xs : List Exchange) → whole new xs ≡ left_for side sheet room (whole old xs) c
+pub record Leaves (old new : Track) (sheet : Sheet) (c : Command) : Type 0 where
+  pub left : (side : Side) (room : ℕ) (xs : List Exchange) → whole new xs ≡ left_for side sheet room (whole old xs) c

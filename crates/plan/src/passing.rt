@@ -35,7 +35,8 @@ impl Track {
 
     // `W`: the opening has as many blocks as there are frames, as every command after it needs.
     pub(crate) fn may_wait(&self, sheet: Sheet) -> Result<(), Cause>
-        ensures { MatchResult result (λ _. self.now.opened ≡ (meant sheet.entry).rack.frames) (λ cause. (cause ≡ BadOpening) × (self.now.opened ≡ (meant sheet.entry).rack.frames → ⊥)) }
+        ensures answer { Judges self.now (meant sheet.entry) Waits result }
+        ensures opened { MatchResult result (λ _. self.now.opened ≡ (meant sheet.entry).rack.frames) (λ cause. (cause ≡ BadOpening) × (self.now.opened ≡ (meant sheet.entry).rack.frames → ⊥)) }
     {
         if self.opened != usize::from(sheet.rack().frames()) {
             return Err(Cause::BadOpening);

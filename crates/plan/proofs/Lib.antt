@@ -2,3 +2,4 @@ pub mod Exactness
 pub mod Looped
 pub mod Stepped
 pub mod Traded
+pub mod Turned

@@ -38,6 +38,9 @@ kept_so t sheet c e judged = record { left = λ side room xs. kept_by _ e _ _ (j
 pub made_so : (t u : Track) (sheet : Sheet) (c : Command) → Judges t sheet c (Ok tt) → ((side : Side) (room : ℕ) (xs : List Exchange) → whole u xs ≡ after_for side sheet room (whole t xs) c) → Leaves t u sheet c
 made_so t u sheet c judged made = record { left = λ side room xs. made_by _ _ _ _ (judged.found side room xs) (made side room xs) }
 
+-- what proves a function whose command passes or not by its own tests alone
+pub ruleset own_tests = (refused_so, kept_so, made_so)
+
 abbrev with_records : List Exchange → State → State
 with_records xs s = record { phase = s.phase; opened = s.opened; floor = s.floor; position = s.position; boundary = s.boundary; waits = s.waits; landing = s.landing; marks = s.marks; idle = s.idle; records = xs }
 

@@ -33,7 +33,7 @@ impl Track {
     }
 
     // `O`: one more block of the opening, above those before.
-    #[tactic(auto, using(crate::proofs::Traded::refused_so, crate::proofs::Traded::kept_so, crate::proofs::Traded::made_so), unfolding(model::specs::Verdict::after))]
+    #[tactic(auto, using(crate::proofs::Traded::own_tests), unfolding(model::specs::Verdict::after))]
     fn open(&mut self, sheet: Sheet, block: u16) -> Result<(), Cause>
         ensures answer { Judges self.old (meant sheet.entry) (Opens block) result }
         ensures after { Leaves self.old self.new (meant sheet.entry) (Opens block) }
@@ -47,7 +47,7 @@ impl Track {
     }
 
     // `S`: the request at the position is served.
-    #[tactic(auto, using(crate::proofs::Traded::refused_so, crate::proofs::Traded::kept_so, crate::proofs::Traded::made_so), unfolding(model::specs::Verdict::after))]
+    #[tactic(auto, using(crate::proofs::Traded::own_tests), unfolding(model::specs::Verdict::after))]
     fn serve(&mut self, sheet: Sheet) -> Result<(), Cause>
         requires { self.old.boundary < plan_limit }
         ensures answer { Judges self.old (meant sheet.entry) Serves result }
@@ -61,7 +61,7 @@ impl Track {
     }
 
     // `W`: one step more.
-    #[tactic(auto, using(crate::proofs::Traded::refused_so, crate::proofs::Traded::kept_so, crate::proofs::Traded::made_so), unfolding(model::specs::Verdict::after))]
+    #[tactic(auto, using(crate::proofs::Traded::own_tests), unfolding(model::specs::Verdict::after))]
     fn wait(&mut self, sheet: Sheet) -> Result<(), Cause>
         requires { self.old.boundary < plan_limit }
         ensures answer { Judges self.old (meant sheet.entry) Waits result }
@@ -73,7 +73,7 @@ impl Track {
     }
 
     // `E`: nothing may follow.
-    #[tactic(auto, using(crate::proofs::Traded::refused_so, crate::proofs::Traded::kept_so, crate::proofs::Traded::made_so), unfolding(model::specs::Verdict::after))]
+    #[tactic(auto, using(crate::proofs::Traded::own_tests), unfolding(model::specs::Verdict::after))]
     fn end(&mut self, sheet: Sheet) -> Result<(), Cause>
         ensures answer { Judges self.old (meant sheet.entry) Ends result }
         ensures after { Leaves self.old self.new (meant sheet.entry) Ends }

@@ -3,7 +3,7 @@ use Rattle.std.proofs.Common.{◌≡◌, ℕ, ◌+◌, ◌<◌, Bool, ltb, List,
 use Rattle.std.proofs.lemmas.List.{take_more_set}
 use Rattle.std.proofs.lemmas.Result.{err_from_is_err_and}
 use Rattle.model.specs.Sheet.{Sheet}
-use Rattle.model.specs.Timetable.{Side, occupies}
+use Rattle.model.specs.Timetable.{Side, Forward, Backward, carrier, occupies}
 use Rattle.model.specs.declared.Exchange.{Exchange}
 use Rattle.model.specs.declared.Command.{Command}
 use Rattle.model.specs.declared.Command.TheVariants.{Trades}
@@ -40,6 +40,11 @@ made_so t u sheet c judged made = record { left = λ side room xs. made_by _ _ _
 
 -- what proves a function whose command passes or not by its own tests alone
 pub ruleset own_tests = (refused_so, kept_so, made_so)
+
+-- an exchange is carried by one of its two blocks
+pub carried_by : (side : Side) (x : Exchange) → (carrier side x ≡ x.brings → ⊥) → carrier side x ≡ x.sends
+carried_by Forward x other = absurd (other refl)
+carried_by Backward x other = refl
 
 abbrev with_records : List Exchange → State → State
 with_records xs s = record { phase = s.phase; opened = s.opened; floor = s.floor; position = s.position; boundary = s.boundary; waits = s.waits; landing = s.landing; marks = s.marks; idle = s.idle; records = xs }

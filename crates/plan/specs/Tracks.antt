@@ -46,6 +46,11 @@ abbrev pub answered : Finding → Result (Unit {0}) Cause
 answered Clean = Ok tt
 answered (Faulty c) = Err c
 
+-- an answer but for the value that a pass gives
+abbrev pub passed : Result ℕ Cause → Result (Unit {0}) Cause
+passed (Ok n) = Ok tt
+passed (Err e) = Err e
+
 -- the list's own refusal comes last
 abbrev pub if_room : Bool → Result (Unit {0}) Cause → Result (Unit {0}) Cause
 if_room room (Err e) = Err e

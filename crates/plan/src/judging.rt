@@ -7,7 +7,6 @@ ghost use Rattle.model.specs.declared.Command.TheVariants.{Opens, Trades, Serves
 ghost use Rattle.sheet.specs.Sheets.{meant};
 ghost use Rattle.plan.specs.Tracks.{whole, reached, finding, answered, left_for, Judges, Leaves};
 
-use crate::passing::home;
 use crate::places::Places;
 use crate::side::Lane;
 use crate::track::Track;
@@ -96,10 +95,9 @@ impl Track {
         ensures pushed { OnlyPushed list.old list.new }
     {
         let exchange = self.exchange(brings, sends);
-        self.may_trade::<S>(sheet, exchange)?;
+        let disk = self.may_trade::<S>(sheet, exchange)?;
         list.push(exchange)?;
-        let rack = sheet.rack();
-        self.note_trade(exchange, home(rack, S::carrier(exchange)), rack.fetch());
+        self.note_trade(exchange, disk, sheet.rack().fetch());
         Ok(())
     }
 

@@ -1,11 +1,12 @@
 // Whether a command passes its own tests, in the order in which its faults are told.
-ghost use Rattle.std.specs.Prelude.{◌≡◌, ℕ, ◌<◌, ◌≤◌, List as ListOf, length, OnOk, MatchResult, nat_lt, slice_index};
+ghost use Rattle.std.specs.Prelude.{◌≡◌, ℕ, ◌<◌, ◌≤◌, List as ListOf, length, IfOk, OnOk, MatchResult, nat_lt, slice_index};
+ghost use Rattle.model.specs.Timetable.{occupies};
 ghost use Rattle.model.specs.declared.Cause.TheVariants.{BadOpening};
 ghost use Rattle.model.specs.declared.Command.TheVariants.{Opens, Trades, Serves, Waits, Ends};
 ghost use Rattle.model.specs.declared.Exchange.{Exchange as Trade};
 ghost use Rattle.sheet.specs.Headers.{rack_of};
 ghost use Rattle.sheet.specs.Sheets.{meant};
-ghost use Rattle.plan.specs.Tracks.{whole, finding, answered, if_room, Judges};
+ghost use Rattle.plan.specs.Tracks.{whole, finding, answered, if_room, passed, Judges};
 
 use crate::side::Lane;
 use crate::track::Track;
@@ -13,7 +14,7 @@ use model::{Cause, Exchange};
 use sheet::{Rack, Sheet};
 
 // The disk of a block, 0 where there is no such block.
-pub(crate) fn home(rack: &Rack, block: u16) -> u8
+fn home(rack: &Rack, block: u16) -> u8
     ensures { result ≡ slice_index (rack_of rack.now).homes block }
 {
     rack.disk_of(block).unwrap_or(0)
@@ -70,10 +71,11 @@ impl Track {
         Ok(())
     }
 
-    // `X`: a block may come in for another, but for the room in the list.
-    pub(crate) fn may_trade<S: Lane>(&self, sheet: Sheet, exchange: Exchange) -> Result<(), Cause>
+    // `X`: a block may come in for another, but for the room in the list. Answers the disk that the exchange occupies.
+    pub(crate) fn may_trade<S: Lane>(&self, sheet: Sheet, exchange: Exchange) -> Result<u8, Cause>
         requires { exchange.start ≡ self.now.boundary }
-        ensures { (room : ℕ) (xs : ListOf Trade) → if_room (nat_lt (length xs) room) result ≡ answered (finding S.Lane.side (meant sheet.entry) room (whole self.now xs) (Trades exchange.brings exchange.sends)) }
+        ensures answer { (room : ℕ) (xs : ListOf Trade) → if_room (nat_lt (length xs) room) (passed result) ≡ answered (finding S.Lane.side (meant sheet.entry) room (whole self.now xs) (Trades exchange.brings exchange.sends)) }
+        ensures disk { IfOk result (λ disk. disk ≡ occupies S.Lane.side (meant sheet.entry).rack.homes exchange) }
     {
         self.may_wait(sheet)?;
         let rack = sheet.rack();
@@ -84,12 +86,10 @@ impl Track {
         if usize::from(sends) >= rack.blocks() || !self.places.is_here(sends, self.boundary) {
             return Err(Cause::BadOut);
         }
-        if !self
-            .places
-            .is_idle(home(rack, S::carrier(exchange)), self.boundary)
-        {
+        let disk = home(rack, S::carrier(exchange));
+        if !self.places.is_idle(disk, self.boundary) {
             return Err(Cause::DiskBusy);
         }
-        Ok(())
+        Ok(disk)
     }
 }

@@ -1,5 +1,5 @@
 -- A track and the exchanges in the caller's list, as the state of the verdict; and the verdict's parts for a sheet. Assumes nothing.
-use Rattle.std.specs.Prelude.{◌≡◌, ℕ, Bool, true, false, List, Ok, Err, Result}
+use Rattle.std.specs.Prelude.{◌≡◌, ℕ, ◌<◌, Bool, true, false, ◌&&◌, List, length, Ok, Err, Result, MatchResult, nat_lt, slice_index}
 use Rattle.model.specs.Sheet.{Sheet}
 use Rattle.model.specs.Timetable.{Side}
 use Rattle.model.specs.declared.Exchange.{Exchange}
@@ -50,6 +50,10 @@ answered (Faulty c) = Err c
 abbrev pub passed : Result ℕ Cause → Result (Unit {0}) Cause
 passed (Ok n) = Ok tt
 passed (Err e) = Err e
+
+-- the disk of a block, if there is such a block and a test of it passes, or else the cause
+abbrev pub DiskIf : List ℕ → ℕ → Bool → Cause → Result ℕ Cause → Type 0
+DiskIf homes block test otherwise answer = MatchResult answer (λ disk. (block < length homes) × (test ≡ true) × (disk ≡ slice_index homes block)) (λ cause. (cause ≡ otherwise) × ((nat_lt block (length homes) && test) ≡ false))
 
 -- the list's own refusal comes last
 abbrev pub if_room : Bool → Result (Unit {0}) Cause → Result (Unit {0}) Cause

@@ -1,23 +1,23 @@
 // Whether a command passes its own tests, in the order in which its faults are told.
-ghost use Rattle.std.specs.Prelude.{◌≡◌, ℕ, ◌<◌, ◌≤◌, List as ListOf, length, IfOk, OnOk, MatchResult, nat_lt, slice_index};
+ghost use Rattle.std.specs.Prelude.{◌≡◌, ℕ, ◌<◌, ◌≤◌, List as ListOf, length, IfOk, OnOk, MatchResult, nat_lt};
 ghost use Rattle.model.specs.Timetable.{occupies};
 ghost use Rattle.model.specs.declared.Cause.TheVariants.{BadOpening};
 ghost use Rattle.model.specs.declared.Command.TheVariants.{Opens, Trades, Serves, Waits, Ends};
 ghost use Rattle.model.specs.declared.Exchange.{Exchange as Trade};
 ghost use Rattle.sheet.specs.Headers.{rack_of};
 ghost use Rattle.sheet.specs.Sheets.{meant};
-ghost use Rattle.plan.specs.Tracks.{whole, finding, answered, if_room, passed, Judges};
+ghost use Rattle.plan.specs.Tracks.{whole, finding, answered, if_room, passed, DiskIf, Judges};
 
 use crate::side::Lane;
 use crate::track::Track;
 use model::{Cause, Exchange};
 use sheet::{Rack, Sheet};
 
-// The disk of a block, 0 where there is no such block.
-fn home(rack: &Rack, block: u16) -> u8
-    ensures { result ≡ slice_index (rack_of rack.now).homes block }
+// The disk of a block, if there is such a block and it is where it must be.
+fn disk_if(rack: &Rack, block: u16, there: bool, otherwise: Cause) -> Result<u8, Cause>
+    ensures { DiskIf (rack_of rack.now).homes block there otherwise result }
 {
-    rack.disk_of(block).unwrap_or(0)
+    rack.disk_of(block).filter(|_| there).ok_or(otherwise)
 }
 
 impl Track {
@@ -72,6 +72,7 @@ impl Track {
     }
 
     // `X`: a block may come in for another, but for the room in the list. Answers the disk that the exchange occupies.
+    #[tactic(auto, using(crate::proofs::Traded::carried_by))]
     pub(crate) fn may_trade<S: Lane>(&self, sheet: Sheet, exchange: Exchange) -> Result<u8, Cause>
         requires { exchange.start ≡ self.now.boundary }
         ensures answer { (room : ℕ) (xs : ListOf Trade) → if_room (nat_lt (length xs) room) (passed result) ≡ answered (finding S.Lane.side (meant sheet.entry) room (whole self.now xs) (Trades exchange.brings exchange.sends)) }
@@ -80,13 +81,15 @@ impl Track {
         self.may_wait(sheet)?;
         let rack = sheet.rack();
         let (brings, sends) = (exchange.brings, exchange.sends);
-        if usize::from(brings) >= rack.blocks() || !self.places.is_away(brings, self.boundary) {
-            return Err(Cause::BadIn);
-        }
-        if usize::from(sends) >= rack.blocks() || !self.places.is_here(sends, self.boundary) {
-            return Err(Cause::BadOut);
-        }
-        let disk = home(rack, S::carrier(exchange));
+        let away = self.places.is_away(brings, self.boundary);
+        let disk_in = disk_if(rack, brings, away, Cause::BadIn)?;
+        let here = self.places.is_here(sends, self.boundary);
+        let disk_out = disk_if(rack, sends, here, Cause::BadOut)?;
+        let disk = if S::carrier(exchange) == brings {
+            disk_in
+        } else {
+            disk_out
+        };
         if !self.places.is_idle(disk, self.boundary) {
             return Err(Cause::DiskBusy);
         }

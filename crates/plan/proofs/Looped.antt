@@ -1,12 +1,9 @@
 -- Commands one after the other, as the loop takes them. Assumes nothing.
-use Rattle.std.proofs.Common.{◌≡◌, ℕ, suc, ◌+◌, ◌-◌, ◌≤◌, true, false, List, length, drop, Ok, Err, Result, sym, refl, ap, ◌∙◌, arith}
-use Rattle.std.proofs.lemmas.List.{drop-drop}
+use Rattle.std.proofs.Common.{◌≡◌, ℕ, suc, ◌≤◌, true, false, List, length, Ok, Err, Result, sym, refl, ap, ◌∙◌}
 use Rattle.model.specs.Sheet.{Sheet}
 use Rattle.model.specs.Timetable.{Side}
 use Rattle.model.specs.Verdict.{State, begin, Turn, Goes, Stops, finished, accepted, Outcome, Accepted, refused, verdict}
 use Rattle.model.proofs.Turns.{run_goes, run_stops, run_finishes}
-use Rattle.records.specs.Pushed.{OnlyPushed}
-use Rattle.records.specs.declared.list.List.{List as Listed}
 use Rattle.plan.specs.declared.counts.Counts.{Counts}
 use Rattle.plan.specs.Numbers.{PlanFault}
 use Rattle.plan.specs.Checks.{outcome_of}
@@ -36,17 +33,6 @@ module _ (side : Side) (sheet : Sheet) (room n total : ℕ) (s : State) (rest : 
 pub begins : (side : Side) (sheet : Sheet) (room : ℕ) (bytes : List ℕ) → run_for side sheet room (suc (length bytes)) (length bytes) begin bytes ≡ verdict_for side sheet room bytes
 unfolding verdict
 begins side sheet room bytes = refl
-
--- Slots that were kept so far stay kept.
-
-kept_on : {T : Type 0} (k k' : ℕ) (xs ys zs : List T) → k ≤ k' → drop k xs ≡ drop k zs → drop k' ys ≡ drop k' xs → drop k' ys ≡ drop k' zs
-kept_on k k' xs ys zs l e f =
-    let d = k' - k in
-    let back : k + d ≡ k' = omega arith in
-    f ∙ ap (λ (n : ℕ). drop n xs) (sym back) ∙ sym (drop-drop d k xs) ∙ ap (drop d) e ∙ drop-drop d k zs ∙ ap (λ (n : ℕ). drop n zs) back
-
-pub pushed_on : {T : Type 0} (a b d : Listed T) → OnlyPushed a b → OnlyPushed b d → OnlyPushed a d
-pushed_on a b d p q = record { room = q.room ∙ p.room; grows = omega (arith, p.grows, q.grows); later = kept_on b.len d.len b.slots.now d.slots.now a.slots.now q.grows p.later q.later; lent = q.lent ∙ p.lent }
 
 -- What the loop answers.
 

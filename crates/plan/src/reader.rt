@@ -10,7 +10,7 @@ use commands::Reader;
 use model::Command;
 
 // The plan's bytes from its place on, and how many there were: the place is how far the check has come.
-#[derive(Clone, Copy)]
+#[derive(Clone, Copy, Debug, PartialEq, Eq)]
 pub(crate) struct PlanReader<'a> {
     pub(crate) bytes: Reader<'a>,
 }

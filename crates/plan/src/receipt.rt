@@ -8,7 +8,7 @@ use sheet::Sheet;
 
 // What the check of a plan on the forward side gives: it carries that sheet and that plan, and is void if the check refused. Nothing
 // else can make one.
-#[derive(Drop)]
+#[derive(Debug, Drop)]
 pub struct Receipt<'a> {
     pub(crate) sheet: Sheet<'a>,
     pub(crate) plan: &'a [u8],

@@ -8,7 +8,7 @@ use plan::Heading;
 use sheet::Sheet;
 
 // What a choosing rule sees at a boundary, between its landings and its starts.
-#[derive(Clone, Copy)]
+#[derive(Clone, Copy, Debug)]
 pub struct View<'a> {
     pub(crate) heading: Heading,
     pub(crate) sheet: Sheet<'a>,

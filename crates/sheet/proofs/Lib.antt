@@ -4,7 +4,6 @@ pub mod Fronts
 pub mod Kept
 pub mod Letters
 pub mod Only
-pub mod Pushes
 pub mod Runs
 pub mod Turned
 pub mod Turns

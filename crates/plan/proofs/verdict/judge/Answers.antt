@@ -5,7 +5,8 @@ use Rattle.model.specs.Verdict.{State}
 use Rattle.sheet.specs.Sheets.{meant}
 use Rattle.plan.specs.Steps.{run_for, step_for, step_left, step_answer}
 use Rattle.plan.specs.Tracks.{whole, reached}
-use Rattle.plan.proofs.Looped.{goes_on, stops_here, ends_here, begins, pushed_on, answers_ok, answers_err}
+use Rattle.records.proofs.Pushed.{pushed_on}
+use Rattle.plan.proofs.Looped.{goes_on, stops_here, ends_here, begins, answers_ok, answers_err}
 use Rattle.plan.proofs.verdict.judge.Goals as goal
 
 pub loop-reader-init : goal.loop-reader-init

@@ -6,7 +6,7 @@ use Rattle.sheet.specs.Headers.{outcome_of}
 use Rattle.sheet.specs.Reading.{Outcome, SoFar, sheet_said, turn, turn_left, reading}
 use Rattle.sheet.proofs.Kept.{known_read}
 use Rattle.sheet.proofs.Only.{Told, told}
-use Rattle.sheet.proofs.Pushes.{pushed_on}
+use Rattle.records.proofs.Pushed.{pushed_on}
 use Rattle.sheet.proofs.Runs.{went_on, was_stopped, leads_on, leads_to_end, leads_to_stop, answer_ok, answer_err}
 use Rattle.sheet.proofs.reading.read_commands.Goals as goal
 

@@ -31,8 +31,7 @@ impl Store for Recording<'_> {
     ghost sound_at_rest = { λ r. recorded_sound r.bytes.now r.disks.now 0 all_idle length_all_idle r.matched r.placed };
 
     fn blocks(&self) -> u16 {
-        // the cast is proved to fit; a conversion would need an answer for a count that cannot be
-        self.disks.len() as u16
+        u16::try_from(self.disks.len()).unwrap()
     }
 
     fn disk(&self, block: u16) -> Option<u8> {

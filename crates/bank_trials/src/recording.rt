@@ -17,8 +17,7 @@ const DAMAGED: u8 = 0xee;
 // One byte of the recording; neighbours and blocks differ.
 pub(crate) fn recorded_byte(block: usize, i: usize) -> u8 {
     let mixed = block.wrapping_mul(37) ^ i.wrapping_mul(11) ^ (i / 256);
-    // the cast is proved to fit; a conversion would need a byte for what cannot be
-    (mixed % 251) as u8
+    u8::try_from(mixed % 251).unwrap()
 }
 
 fn parity_byte(row: usize, i: usize) -> u8 {

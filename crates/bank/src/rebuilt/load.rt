@@ -1,9 +1,8 @@
 // Loading a rebuilt bank.
-ghost use Rattle.std.specs.Prelude.{◌≡◌, ℕ, ◌*◌, ◌<◌, List, length, Ok};
+ghost use Rattle.std.specs.Prelude.{◌≡◌, ℕ, ◌*◌, List, length, Ok};
 ghost use Rattle.bank.specs.Array.{spread};
-ghost use Rattle.bank.specs.ArrayLoad.{disks_within, array_limits, array_answer, array_loaded};
+ghost use Rattle.bank.specs.ArrayLoad.{array_limits, array_answer, array_loaded};
 ghost use Rattle.bank.specs.Meaning.{empty_bank};
-ghost use Rattle.bank.specs.Parity.{rows_of};
 ghost use Rattle.bank.specs.Rebuilt.{rebuilt_meaning};
 ghost use Rattle.bank.specs.RecordingLoad.{recording_loaded};
 ghost use Rattle.bank.specs.Undamaged.{SameButLost, LeftOf, with_parity};
@@ -12,7 +11,7 @@ use crate::bank::Bank;
 use crate::disk_bank::DiskBank;
 use crate::fault::BankFault;
 use crate::layout::Layout;
-use crate::limits::{BLOCK, DISKS, count_fits, fetch_fits};
+use crate::limits::{BLOCK, count_fits, fetch_fits};
 use crate::rebuilt::{Array, RebuiltBank};
 
 impl<'a> DiskBank<Array<'a>> {
@@ -54,25 +53,11 @@ impl<'a> DiskBank<Array<'a>> {
 fn judge(image: &[u8], layout: Layout, fetch: u8) -> Result<(), BankFault>
     ensures { result ≡ array_answer image.now layout fetch }
 {
-    if !(count_fits(usize::from(layout.blocks)) && disks_fit(layout) && fetch_fits(fetch)) {
+    if !(count_fits(usize::from(layout.blocks)) && layout.disks_fit() && fetch_fits(fetch)) {
         return Err(BankFault::OutsideLimits);
     }
-    if image.len() != BLOCK * (usize::from(layout.blocks) + rows(layout)) {
+    if image.len() != BLOCK * (usize::from(layout.blocks) + layout.rows()) {
         return Err(BankFault::LengthsDiffer);
     }
     Ok(())
-}
-
-fn disks_fit(layout: Layout) -> bool
-    ensures { result ≡ disks_within layout }
-{
-    (1..=DISKS).contains(&usize::from(layout.disks)) && layout.lost < layout.disks
-}
-
-// How many rows the blocks fill, the last one perhaps in part.
-fn rows(layout: Layout) -> usize
-    requires { 0 < layout.disks }
-    ensures { result ≡ rows_of layout }
-{
-    usize::from(layout.blocks).div_ceil(usize::from(layout.disks))
 }

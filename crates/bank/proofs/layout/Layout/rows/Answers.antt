@@ -2,7 +2,7 @@ use Rattle.std.proofs.Common.{◌≡◌, ℕ, ◌+◌, ◌-◌, ◌*◌, ◌/◌
 use Rattle.std.specs.Int.{div_ceil}
 use Rattle.std.proofs.lemmas.Nat.{div-add-mod', div-mul-add, mod_below}
 use Rattle.std.proofs.lemmas.Bool.{cases_eq}
-use Rattle.bank.proofs.rebuilt.load.rows.Goals as goal
+use Rattle.bank.proofs.layout.Layout.rows.Goals as goal
 
 rounded_up : (n d : ℕ) → 0 < d → div_ceil n d ≡ (n + (d - 1)) / d
 rounded_up n d some = by_rest (cases_eq (n % d) 0)
@@ -24,4 +24,4 @@ rounded_up n d some = by_rest (cases_eq (n % d) 0)
 pub returns : goal.returns
 returns c =
     c.div_ceil.ensures
-    ∙ ((λ i. div_ceil (c.from.ensures i) (c.from-2.ensures i)) ∙ rounded_up c.args.layout.blocks c.args.layout.disks c.requires)
+    ∙ ((λ i. div_ceil (c.from.ensures i) (c.from-2.ensures i)) ∙ rounded_up c.args.self.blocks c.args.self.disks c.requires)

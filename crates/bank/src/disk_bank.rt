@@ -55,7 +55,7 @@ impl<S: Store> Bank for DiskBank<S> {
 
     #[tactic(auto, unfolding(crate::specs::Calls::start_answer, crate::specs::Calls::start_after))]
     fn start(&mut self, block: u16) -> Result<(), BankFault> {
-        let disk = self.store.disk(block);
+        let disk = self.store.disk(block).ok_or(BankFault::NoSuchBlock)?;
         self.drives.start(disk, block)
     }
 

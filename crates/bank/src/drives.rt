@@ -1,7 +1,7 @@
 // The eight disks of a bank, each idle or fetching.
-ghost use Rattle.std.specs.Prelude.{◌≡◌, ◌<◌, ◌≤◌, true, length, IfSome, is_ok, IfOk, if◌then◌else◌, Some, None, nat_lt, slice_index_or, slice_set};
-ghost use Rattle.bank.specs.declared.state.DiskState.TheVariants.{Idle};
-ghost use Rattle.bank.specs.Fetching.{start_on, begun, ready, all_fetch_below, Same};
+ghost use Rattle.std.specs.Prelude.{◌≡◌, ◌<◌, ◌≤◌, true, length, is_ok, IfOk, if◌then◌else◌, Some, None, nat_lt, slice_index_or, slice_set};
+ghost use Rattle.bank.specs.declared.state.DiskState.TheVariants.{Idle, Busy};
+ghost use Rattle.bank.specs.Fetching.{startable, ready, all_fetch_below, Same};
 ghost use Rattle.bank.specs.Meaning.{all_idle};
 ghost use Rattle.bank.specs.Ticking.{lowered_all};
 
@@ -54,16 +54,14 @@ impl Drives {
         self.fetch
     }
 
-    // The block's disk fetches it, if it is idle; a block that has no disk is not there.
-    pub(crate) fn start(&mut self, disk: Option<u8>, block: u16) -> Result<(), BankFault>
-        requires { IfSome disk (λ d. (d < 8) × (block < self.old.blocks)) }
-        ensures answer { result ≡ start_on disk self.old.list }
-        ensures after { self.new.list ≡ (if is_ok result then begun disk block self.old.fetch self.old.list else self.old.list) }
+    // The disk fetches the block, if it is idle.
+    pub(crate) fn start(&mut self, disk: u8, block: u16) -> Result<(), BankFault>
+        requires disk { disk < 8 }
+        requires block { block < self.old.blocks }
+        ensures answer { result ≡ startable (slice_index_or self.old.list disk Idle) }
+        ensures after { self.new.list ≡ (if is_ok result then slice_set self.old.list disk (Busy block self.old.fetch) else self.old.list) }
         ensures same { Same self.old.blocks self.old.fetch self.new.blocks self.new.fetch }
     {
-        let Some(disk) = disk else {
-            return Err(BankFault::NoSuchBlock);
-        };
         let place = usize::from(disk);
         let state = self.list[place];
         match state {

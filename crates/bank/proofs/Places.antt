@@ -1,12 +1,14 @@
 -- The places of a row, and what is folded together over them.
-use Rattle.std.proofs.Common.{◌≡◌, ℕ, ◌+◌, ◌-◌, ◌*◌, ◌/◌, ◌%◌, ◌<◌, ◌≤◌, Bool, true, false, cond, eqb, ltb, ◌⊎◌, List, length, get_or, drop, sym, refl, ap, ◌∙◌, inl, inr, add-mul, one-mul, add-one, arith}
+use Rattle.std.proofs.Common.{◌≡◌, ℕ, ◌+◌, ◌-◌, ◌*◌, ◌/◌, ◌%◌, ◌<◌, ◌≤◌, Bool, true, false, cond, eqb, ltb, ◌⊎◌, List, length, slice_get, get_or, drop, Some, sym, refl, ap, ◌∙◌, inl, inr, add-mul, one-mul, add-one, arith}
 use lib.Bits.{bit_xor, xor_zero_r}
 use Rattle.std.proofs.lemmas.Nat.{div-add-mod', le-div, mod-mul-add}
 use Rattle.std.proofs.lemmas.List.FromFn.{get_or-map-range_with_len}
 use Rattle.std.proofs.lemmas.List.{get_or-take, get_or-drop, ext_get_or}
+use Rattle.std.proofs.lemmas.Option.{slice_get-get_or}
 use Rattle.std.proofs.lemmas.Bool.{cond-true, cond-false, lt-ltb, le-ltb, cases_lt}
 use Rattle.bank.specs.declared.layout.Layout.{Layout}
-use Rattle.bank.specs.ArraySound.{length_restored_block}
+use Rattle.bank.specs.Array.{spread}
+use Rattle.bank.specs.ArraySound.{length_spread, get_or_spread, length_restored_block}
 use Rattle.bank.specs.Parity.{rows_of, byte_of, place_byte, place_folded, restored_byte, restored_block}
 use Rattle.bank.specs.Recording.{block_at}
 
@@ -64,3 +66,8 @@ row_below l b some h =
     let e : (b / l.disks + 1) * l.disks ≡ b / l.disks * l.disks + l.disks = simp (add-mul, one-mul) in
     let k : b / l.disks + 1 ≤ (l.blocks + (l.disks - 1)) / l.disks = le-div (b / l.disks + 1) (l.blocks + (l.disks - 1)) l.disks some (omega arith) in
     omega arith
+
+pub slice_get_spread : (l : Layout) (b : ℕ) → b < l.blocks → slice_get (spread l) b ≡ Some (b % l.disks)
+slice_get_spread l b h =
+    let count = length_spread l in
+    slice_get-get_or (spread l) b 0 (omega arith) ∙ ap Some (get_or_spread l b h)

@@ -34,7 +34,8 @@ unfoldable pub all_fetch_below : ℕ → List DiskState → Bool
 all_fetch_below n [] = true
 all_fetch_below n (s ∷ ss) = fetches_below n s && all_fetch_below n ss
 
--- the number of blocks and the fetch time stay as they are
+-- the number of blocks and the fetch time stay as they are; told of the four numbers, since the file that declares the
+-- drives cannot name a relation of whole drives
 pub record Same (blocks fetch blocks-then fetch-then : ℕ) : Type 0 where
   pub count : blocks-then ≡ blocks
   pub time : fetch-then ≡ fetch

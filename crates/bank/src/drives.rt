@@ -1,5 +1,6 @@
 // The eight disks of a bank, each idle or fetching.
-ghost use Rattle.std.specs.Prelude.{◌≡◌, ◌<◌, ◌≤◌, true, length, is_ok, IfOk, if◌then◌else◌, Some, None, nat_lt, slice_index_or, slice_set};
+ghost use Rattle.std.specs.Prelude.{◌≡◌, ◌<◌, ◌≤◌, true, length, is_ok, IfOk, if◌then◌else◌, slice_index_or, slice_set};
+ghost use Rattle.std.specs.List.{slice_get};
 ghost use Rattle.bank.specs.declared.state.DiskState.TheVariants.{Idle, Busy};
 ghost use Rattle.bank.specs.Fetching.{startable, ready, all_fetch_below, Same};
 ghost use Rattle.bank.specs.Meaning.{all_idle};
@@ -37,7 +38,7 @@ impl Drives {
     }
 
     pub(crate) fn state(&self, disk: u8) -> Option<DiskState>
-        ensures { result ≡ (if nat_lt disk (length self.now.list) then Some (slice_index_or self.now.list disk Idle) else None) }
+        ensures { result ≡ slice_get self.now.list disk }
     {
         self.list.get(usize::from(disk)).copied()
     }

@@ -39,7 +39,7 @@ impl Store for Array<'_> {
         self.layout.blocks
     }
 
-    #[tactic(auto, using(crate::specs::ArraySound::length_spread, crate::specs::ArraySound::get_or_spread, std::proofs::lemmas::Nat::mod_below))]
+    #[tactic(auto, using(crate::specs::ArraySound::length_spread, crate::proofs::Places::slice_get_spread, std::proofs::lemmas::Nat::mod_below, std::proofs::lemmas::Option::slice_get_past))]
     fn disk(&self, block: u16) -> Option<u8> {
         let layout = self.layout;
         if block < layout.blocks {

@@ -1,5 +1,6 @@
 // What holds a bank's blocks and knows the disk of each. Only this crate makes and asks stores.
-ghost use Rattle.std.specs.Prelude.{◌≡◌, ℕ, ◌<◌, List, [], length, if◌then◌else◌, Some, None, nat_lt, slice_index, slice_index_or};
+ghost use Rattle.std.specs.Prelude.{◌≡◌, ℕ, ◌<◌, List, [], length, slice_index_or};
+ghost use Rattle.std.specs.List.{slice_get};
 ghost use Rattle.bank.specs.Meaning.{Sound, all_idle};
 ghost use Rattle.bank.specs.Stored.{stored};
 
@@ -21,7 +22,7 @@ pub trait Store {
 
     // The disk that a block lies on, or none where there is no such block.
     fn disk(&self, block: u16) -> Option<u8>
-        ensures { result ≡ (if nat_lt block (length (places self.now)) then Some (slice_index (places self.now) block) else None) };
+        ensures { result ≡ slice_get (places self.now) block };
 
     // A block's bytes, by value: a buffer of the caller's would have to be asked for its length.
     fn block(&self, block: u16) -> [u8; BLOCK]

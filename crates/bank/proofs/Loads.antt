@@ -9,7 +9,6 @@ use Rattle.bank.specs.Recording.{recorded}
 use Rattle.bank.specs.RecordingLoad.{recording_limits, recording_answer, recording_loaded}
 
 pub below_at : (n : ℕ) (xs : List ℕ) → all_below n xs ≡ true → (i : ℕ) → i < length xs → get_or xs i 0 < n
-unfolding all_below
 below_at n [] all i h = absurd (let z : ⊥ = omega arith in z)
 below_at n (x ∷ xs) all zero h = ltb-true x n (and_parts _ _ all).0
 below_at n (x ∷ xs) all (suc i) h = below_at n xs (and_parts _ _ all).1 i (omega arith)

@@ -16,7 +16,6 @@ use Rattle.bank.proofs.Loads as recording-load
 use Rattle.bank.proofs.Recovery.{same_blocks}
 
 all_below_lem : (n : ℕ) (xs : List ℕ) → ((i : ℕ) → i < length xs → get_or xs i 0 < n) → all_below n xs ≡ true
-unfolding all_below
 all_below_lem n [] each = refl
 all_below_lem n (x ∷ xs) each =
     and_from _ _ (lt-ltb x n (each zero (omega arith))) (all_below_lem n xs (λ i h. each (suc i) (omega arith)))

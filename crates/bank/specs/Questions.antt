@@ -4,6 +4,7 @@ use Rattle.bank.specs.declared.state.DiskState.{DiskState}
 use Rattle.bank.specs.declared.state.DiskState.TheVariants.{Idle}
 use Rattle.bank.specs.Meaning.{Meaning}
 
+-- Each is worded with its test, which the proof of a whole fetch reads off.
 -- a block's disk, or none where there is no such block: the list has an entry for each
 abbrev pub disk_of : Meaning → ℕ → Option ℕ
 disk_of m b = cond (nat_lt b (length m.disks)) (Some (slice_index m.disks b)) None

@@ -1,5 +1,6 @@
 -- What a granted load tells.
-use Rattle.std.proofs.Common.{◌≡◌, ℕ, zero, suc, ◌*◌, ◌<◌, ◌≤◌, true, List, [], ◌∷◌, length, get_or, Ok, Err, arith}
+use Rattle.std.proofs.Common.{◌≡◌, ℕ, ◌*◌, ◌<◌, ◌≤◌, ltb, true, List, length, get_or, Ok, Err, arith}
+use Rattle.std.proofs.lemmas.List.Sums.{AllPass-from_list_all}
 use Rattle.std.proofs.lemmas.Bool.{and_parts, ltb-true, leb-true}
 use Rattle.std.proofs.lemmas.Bool.Decides.{nat_tests}
 use Rattle.bank.specs.declared.fault.BankFault.{BankFault}
@@ -7,11 +8,6 @@ use Rattle.bank.specs.Limits.{count_within, fetch_within, all_below}
 use Rattle.bank.specs.Meaning.{all_idle, empty_bank}
 use Rattle.bank.specs.Recording.{recorded}
 use Rattle.bank.specs.RecordingLoad.{recording_limits, recording_answer, recording_loaded}
-
-pub below_at : (n : ℕ) (xs : List ℕ) → all_below n xs ≡ true → (i : ℕ) → i < length xs → get_or xs i 0 < n
-below_at n [] all i h = absurd (let z : ⊥ = omega arith in z)
-below_at n (x ∷ xs) all zero h = ltb-true x n (and_parts _ _ all).0
-below_at n (x ∷ xs) all (suc i) h = below_at n xs (and_parts _ _ all).1 i (omega arith)
 
 pub limits_few : (places : List ℕ) (steps : ℕ) → recording_limits places steps ≡ true → length places ≤ 1024
 unfolding recording_limits
@@ -30,7 +26,8 @@ module _ (bytes places : List ℕ) (steps : ℕ) (e : recording_answer bytes pla
   granted_few = limits_few places steps (granted_limits bytes places steps e).0
 
   pub granted_placed : (b : ℕ) → b < length places → get_or places b 0 < 8
-  granted_placed = below_at 8 places (limits_placed places steps (granted_limits bytes places steps e).0)
+  granted_placed b h =
+      ltb-true _ _ (AllPass-from_list_all (λ x. ltb x 8) places (limits_placed places steps (granted_limits bytes places steps e).0) b 0 h)
 
   pub granted_matched : length bytes ≡ 512 * length places
   granted_matched = (granted_limits bytes places steps e).1

@@ -1,6 +1,8 @@
 -- A rebuilt bank beside the image bank of the undamaged recording.
-use Rattle.std.proofs.Common.{◌≡◌, ℕ, zero, suc, ◌*◌, ◌<◌, true, List, [], ◌∷◌, length, get_or, Ok, sym, refl, ap, ◌∙◌, arith}
+use Rattle.std.proofs.Common.{◌≡◌, ℕ, ◌*◌, ◌<◌, ltb, true, List, length, get_or, Ok, sym, ap, ◌∙◌, arith}
 use Rattle.std.proofs.lemmas.Nat.{mod_below}
+use Rattle.std.proofs.lemmas.List.{get_or_default}
+use Rattle.std.proofs.lemmas.List.Sums.{list_all-from_AllPass}
 use Rattle.std.proofs.lemmas.Bool.{and_from, cond-true, lt-ltb, eq-eqb}
 use Rattle.bank.specs.declared.layout.Layout.{Layout}
 use Rattle.bank.specs.Array.{spread, rebuilt}
@@ -16,9 +18,10 @@ use Rattle.bank.proofs.Loads as recording-load
 use Rattle.bank.proofs.Recovery.{same_blocks}
 
 all_below_lem : (n : ℕ) (xs : List ℕ) → ((i : ℕ) → i < length xs → get_or xs i 0 < n) → all_below n xs ≡ true
-all_below_lem n [] each = refl
-all_below_lem n (x ∷ xs) each =
-    and_from _ _ (lt-ltb x n (each zero (omega arith))) (all_below_lem n xs (λ i h. each (suc i) (omega arith)))
+all_below_lem n xs each = list_all-from_AllPass (λ x. ltb x n) xs (λ i d h.
+    let same = get_or_default xs i d 0 h in
+    let low = each i h in
+    lt-ltb _ n (omega arith))
 
 -- the disks that the blocks are spread over are within the limits
 spread_fits : (l : Layout) (steps : ℕ) → array_limits l steps ≡ true → recording_limits (spread l) steps ≡ true

@@ -1,7 +1,8 @@
 -- The bank that blocks in a store make.
-use Rattle.std.specs.Prelude.{◌≡◌, ℕ, List, length, refl}
+use Rattle.std.specs.Prelude.{◌≡◌, ℕ, List, length, Ok, Err, Result, refl}
+use Rattle.bank.specs.declared.fault.BankFault.{BankFault}
 use Rattle.bank.specs.declared.state.DiskState.{DiskState}
-use Rattle.bank.specs.Meaning.{Meaning, Sound, all_idle}
+use Rattle.bank.specs.Meaning.{Meaning, Sound, all_idle, empty_bank}
 
 -- its blocks and their disks, with a fetch time and what the disks are doing
 abbrev pub stored : List (List ℕ) → List ℕ → ℕ → List DiskState → Meaning
@@ -11,6 +12,11 @@ stored contents places steps now-states = record {
   fetch = steps;
   states = now-states;
 }
+
+-- what a bank is that holds a store from now on, or nothing where the store was refused
+abbrev pub held : {S : Type 0} → (S → List (List ℕ)) → (S → List ℕ) → Result S BankFault → ℕ → Meaning
+held contents places (Ok store) steps = stored (contents store) (places store) steps all_idle
+held contents places (Err f) steps = empty_bank
 
 pub length_all_idle : length all_idle ≡ 8
 unfolding all_idle

@@ -1,7 +1,8 @@
 // A bank of eight disks, whatever holds its blocks.
 ghost use Rattle.std.specs.Prelude.{◌≡◌, length};
-ghost use Rattle.bank.specs.Meaning.{all_idle};
-ghost use Rattle.bank.specs.Stored.{stored, stored_sound};
+ghost use Rattle.bank.specs.Calls.{granted};
+ghost use Rattle.bank.specs.Meaning.{all_idle, empty_bank};
+ghost use Rattle.bank.specs.Stored.{stored, stored_sound, held};
 
 use crate::bank::Bank;
 use crate::drives::Drives;
@@ -17,7 +18,7 @@ pub struct DiskBank<S: Store> {
     ghost counted: { drives.blocks ≡ length (S.places store) },
 }
 
-impl<S: Store> DiskBank<S> {
+impl<S: Store + Drop> DiskBank<S> {
     // All disks idle.
     pub(crate) fn new(store: S, fetch: u8) -> Self
         ensures store { result.store ≡ store }
@@ -29,6 +30,23 @@ impl<S: Store> DiskBank<S> {
             store,
             drives: Drives::new(blocks, fetch),
         }
+    }
+
+    // A bank that holds nothing.
+    pub fn empty() -> Self
+        ensures { stored (S.contents result.store) (S.places result.store) result.drives.fetch result.drives.list ≡ empty_bank }
+    {
+        DiskBank::new(S::nothing(), 0)
+    }
+
+    // Holds the store from now on, all disks idle. Where it was refused the bank is empty.
+    pub(crate) fn hold(&mut self, store: Result<S, BankFault>, fetch: u8) -> Result<(), BankFault>
+        ensures answer { result ≡ granted store }
+        ensures after { stored (S.contents self.new.store) (S.places self.new.store) self.new.drives.fetch self.new.drives.list ≡ held S.contents S.places store fetch }
+    {
+        *self = DiskBank::empty();
+        *self = DiskBank::new(store?, fetch);
+        Ok(())
     }
 }
 

@@ -30,6 +30,13 @@ impl Store for Recording<'_> {
 
     ghost sound_at_rest = { λ r. recorded_sound r.bytes.now r.disks.now 0 all_idle length_all_idle r.matched r.placed };
 
+    fn nothing() -> Self {
+        Recording {
+            bytes: &[],
+            disks: &[],
+        }
+    }
+
     fn blocks(&self) -> u16 {
         u16::try_from(self.disks.len()).unwrap()
     }

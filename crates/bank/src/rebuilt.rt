@@ -34,6 +34,15 @@ impl Store for Array<'_> {
 
     ghost sound_at_rest = { λ a. array_sound a.image.now a.layout 0 all_idle length_all_idle a.some a.few a.matched };
 
+    fn nothing() -> Self {
+        let layout = Layout {
+            blocks: 0,
+            disks: 1,
+            lost: 0,
+        };
+        Array { image: &[], layout }
+    }
+
     #[tactic(auto, using(crate::specs::ArraySound::length_spread))]
     fn blocks(&self) -> u16 {
         self.layout.blocks

@@ -16,6 +16,11 @@ pub trait Store {
     // the bank that it makes is sound
     ghost sound_at_rest: { (x : Self) → Sound (stored (contents x) (places x) 0 all_idle) };
 
+    // A store that holds nothing.
+    fn nothing() -> Self
+        ensures contents { contents result ≡ [] }
+        ensures places { places result ≡ [] };
+
     // How many blocks there are.
     fn blocks(&self) -> u16
         ensures { result ≡ length (places self.now) };

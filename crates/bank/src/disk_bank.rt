@@ -34,7 +34,7 @@ impl<S: Store + Drop> DiskBank<S> {
 
     // A bank that holds nothing.
     pub fn empty() -> Self
-        ensures { stored (S.contents result.store) (S.places result.store) result.drives.fetch result.drives.list ≡ empty_bank }
+        ensures { ⟦<DiskBank<S> as Bank>⟧.meaning result ≡ empty_bank }
     {
         DiskBank::new(S::nothing(), 0)
     }
@@ -42,7 +42,7 @@ impl<S: Store + Drop> DiskBank<S> {
     // Holds the store from now on, all disks idle. Where it was refused the bank is empty.
     pub(crate) fn hold(&mut self, store: Result<S, BankFault>, fetch: u8) -> Result<(), BankFault>
         ensures answer { result ≡ granted store }
-        ensures after { stored (S.contents self.new.store) (S.places self.new.store) self.new.drives.fetch self.new.drives.list ≡ held S.contents S.places store fetch }
+        ensures after { ⟦<DiskBank<S> as Bank>⟧.meaning self.new ≡ held S.contents S.places store fetch }
     {
         *self = DiskBank::empty();
         *self = DiskBank::new(store?, fetch);

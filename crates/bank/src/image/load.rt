@@ -26,7 +26,8 @@ impl<'a> DiskBank<Recording<'a>> {
 }
 
 impl<'a> Recording<'a> {
-    // Limits are told before lengths.
+    // Limits are told before lengths. Each store judges for itself: how many bytes are wanted can be said only once
+    // its own limits hold.
     #[tactic(auto, using(crate::proofs::Loads::loads), unfolding(crate::specs::RecordingLoad::recording_limits))]
     fn new(bytes: &'a [u8], disks: &'a [u8], fetch: u8) -> Result<Recording<'a>, BankFault>
         ensures answer { granted result ≡ recording_answer bytes.now disks.now fetch }

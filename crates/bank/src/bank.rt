@@ -15,7 +15,6 @@ pub trait Bank {
     // it has eight disks, a disk among them for each block, and 512 bytes to a block
     ghost sound: { (x : Self) → Sound (meaning x) };
 
-    // How many blocks there are.
     fn blocks(&self) -> u16
         ensures { result ≡ length (meaning self.now).blocks };
 
@@ -23,7 +22,6 @@ pub trait Bank {
     fn disk(&self, block: u16) -> Option<u8>
         ensures { result ≡ disk_of (meaning self.now) block };
 
-    // How many steps a fetch takes.
     fn fetch_time(&self) -> u8
         ensures { result ≡ (meaning self.now).fetch };
 

@@ -11,7 +11,7 @@ use crate::limits::BLOCK;
 use crate::state::DiskState;
 use crate::store::Store;
 
-#[derive(Drop)]
+#[derive(Debug, Drop)]
 pub struct DiskBank<S: Store> {
     store: S,
     drives: Drives,

@@ -11,7 +11,7 @@ use crate::limits::{BLOCK, DISKS};
 use crate::state::DiskState;
 
 // They serve a number of blocks, and every fetch takes the same time.
-#[derive(Drop)]
+#[derive(Debug, Drop)]
 pub(crate) struct Drives {
     blocks: u16,
     fetch: u8,

@@ -14,7 +14,7 @@ mod load;
 
 pub type ImageBank<'a> = DiskBank<Recording<'a>>;
 
-#[derive(Drop)]
+#[derive(Debug, Drop)]
 pub struct Recording<'a> {
     bytes: &'a [u8],
     disks: &'a [u8],

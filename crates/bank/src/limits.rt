@@ -1,13 +1,14 @@
-// The limits of a bank.
+// The limits of a bank. Clauses and specs say the numbers themselves: a clause that named a constant here would hold of a wrong one.
 ghost use Rattle.std.specs.Prelude.{◌≡◌};
 ghost use Rattle.bank.specs.Limits.{count_within, fetch_within};
 
 pub(crate) const DISKS: usize = 8;
 
-// How many bytes a block has.
 pub(crate) const BLOCK: usize = 512;
 
 const MOST_BLOCKS: usize = 1024;
+
+const MOST_STEPS: u8 = 64;
 
 pub(crate) fn count_fits(blocks: usize) -> bool
     ensures { result ≡ count_within blocks }
@@ -18,5 +19,5 @@ pub(crate) fn count_fits(blocks: usize) -> bool
 pub(crate) fn fetch_fits(fetch: u8) -> bool
     ensures { result ≡ fetch_within fetch }
 {
-    (1..=64).contains(&fetch)
+    (1..=MOST_STEPS).contains(&fetch)
 }

@@ -18,7 +18,7 @@ mod parity;
 pub type RebuiltBank<'a> = DiskBank<Array<'a>>;
 
 // The image holds the blocks in number order and then one parity block for each row.
-#[derive(Drop)]
+#[derive(Debug, Drop)]
 pub struct Array<'a> {
     image: &'a [u8],
     layout: Layout,

@@ -21,7 +21,6 @@ pub trait Store {
         ensures contents { contents result ≡ [] }
         ensures places { places result ≡ [] };
 
-    // How many blocks there are.
     fn blocks(&self) -> u16
         ensures { result ≡ length (places self.now) };
 

@@ -40,6 +40,7 @@ impl Array<'_> {
 fn fold(block: &mut [u8; BLOCK], other: &[u8; BLOCK])
     ensures { (k : ℕ) → k < 512 → slice_index block.new k ≡ bit_xor (slice_index block.old k) (slice_index other.now k) }
 {
+    // by index: what is known of a `zip` over the two could not name what the block holds so far
     for (i, byte) in block.iter_mut().enumerate() {
         *byte ^= other[i];
     }

@@ -39,12 +39,17 @@ fn image_byte(block: usize, i: usize, lost: u8) -> u8 {
     recorded_byte(block, i)
 }
 
-pub(crate) fn fill_recording(bytes: &mut [u8]) {
-    fill(bytes, recorded_byte);
+// The first bytes of the recording.
+pub(crate) fn recorded<const N: usize>() -> [u8; N] {
+    let mut bytes = [0u8; N];
+    fill(&mut bytes, recorded_byte);
+    bytes
 }
 
-pub(crate) fn fill_image(bytes: &mut [u8], lost: u8) {
-    fill(bytes, |block, i| image_byte(block, i, lost));
+pub(crate) fn left_of(lost: u8) -> [u8; IMAGE] {
+    let mut bytes = [0u8; IMAGE];
+    fill(&mut bytes, |block, i| image_byte(block, i, lost));
+    bytes
 }
 
 // Each byte by its block and its place in the block.

@@ -260,16 +260,24 @@ fn told<S: Side>(
     }
 }
 
-#[test]
-fn plans_of_the_sample(rt: HostRuntime) -> Result<(), Fail> {
+// Lends the sample sheet to a test.
+fn with_the_sample<F: FnOnce(Sheet<'_>) -> Result<(), Fail>>(test: F) -> Result<(), Fail>
+    requires { F.IsAlwaysCallable test }
+{
     let mut requests = [0u16; 6];
     let reading = SheetReading::new(SAMPLE, &mut requests);
-    let sheet = reading.sheet();
-    for row in ROWS {
-        let line = told::<Forward>(rt.alloc(), sheet, row.bytes, row.slots)?;
-        assert_eq!(rt; line.as_str(), row.told);
-    }
-    Ok(())
+    test(reading.sheet())
+}
+
+#[test]
+fn plans_of_the_sample(rt: HostRuntime) -> Result<(), Fail> {
+    with_the_sample(|sheet| {
+        for row in ROWS {
+            let line = told::<Forward>(rt.alloc(), sheet, row.bytes, row.slots)?;
+            assert_eq!(rt; line.as_str(), row.told);
+        }
+        Ok(())
+    })
 }
 
 // The backward plan of the turned sheet: opening 2 3 4 5, S X 1 5 S S X 0 4 S S S E.
@@ -306,11 +314,14 @@ fn the_limit_of_a_plan(rt: HostRuntime) -> Result<(), Fail> {
     let mut requests = [0u16; 6];
     let reading = SheetReading::new(SAMPLE, &mut requests);
     let sheet = reading.sheet();
-    let whole = told_at_the_limit(heap, sheet, b"")?;
-    assert_eq!(rt; whole.as_str(), "refused 7 plan 1048576");
-    let past = told_at_the_limit(heap, sheet, b"E")?;
-    assert_eq!(rt; past.as_str(), "refused 18 plan 1048576");
-    let strange = told_at_the_limit(heap, sheet, b"Z")?;
-    assert_eq!(rt; strange.as_str(), "refused 18 plan 1048576");
+    let table: [(&[u8], &str); 3] = [
+        (b"", "refused 7 plan 1048576"),
+        (b"E", "refused 18 plan 1048576"),
+        (b"Z", "refused 18 plan 1048576"),
+    ];
+    for (tail, told) in table {
+        let line = told_at_the_limit(heap, sheet, tail)?;
+        assert_eq!(rt; line.as_str(), told);
+    }
     Ok(())
 }

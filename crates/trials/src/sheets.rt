@@ -269,6 +269,7 @@ fn sheet(
 }
 
 // Disks, frames and fetch time, how many blocks and requests, what follows them, and what is told.
+// A tuple, so that a row is a line and the rows can be compared: with named fields each would take seven.
 type Limits = ([u8; 3], u16, usize, &'static [u8], &'static str);
 
 fn limits_read_as(rt: &impl Abort, heap: Global, table: &[Limits]) -> Result<(), Fail> {

@@ -1,10 +1,11 @@
 // What a load grants and refuses, and what it leaves.
 use crate::recording::*;
+use crate::tests::banks::layout;
 use bank::{Bank, BankFault, DiskState, ImageBank, Layout, RebuiltBank};
 use std::process::Abort;
 use std::test::Fail;
 
-fn is_empty<B: Bank>(rt: &impl Abort, bank: &mut B) -> Result<(), Fail> {
+fn is_empty<B: Bank>(rt: &impl Abort, bank: &mut B) {
     assert_eq!(rt; bank.blocks(), 0);
     assert_eq!(rt; bank.fetch_time(), 0);
     assert_eq!(rt; bank.disk(0), None);
@@ -13,14 +14,28 @@ fn is_empty<B: Bank>(rt: &impl Abort, bank: &mut B) -> Result<(), Fail> {
     }
     assert_eq!(rt; bank.state(8), None);
     assert_eq!(rt; bank.start(0), Err(BankFault::NoSuchBlock));
-    Ok(())
+}
+
+// After a load over a good one: fresh where it was granted, else empty.
+fn is_fresh_or_empty<B: Bank>(
+    rt: &impl Abort,
+    bank: &mut B,
+    answer: Result<(), BankFault>,
+    disk: u8,
+    blocks: u16,
+) {
+    if answer.is_ok() {
+        assert_eq!(rt; bank.state(disk), Some(DiskState::Idle));
+        assert_eq!(rt; bank.blocks(), blocks);
+    } else {
+        is_empty(rt, bank);
+    }
 }
 
 // How many disk bytes, the last of them, how many bytes, the fetch time, and what is told: limits before lengths.
 #[test]
 fn an_image_bank_is_empty_after_a_refused_load(rt: HostRuntime) -> Result<(), Fail> {
-    let mut recording = [0u8; 2048];
-    fill_recording(&mut recording);
+    let recording: [u8; 2048] = recorded();
     let good: [u8; 4] = [0, 7, 3, 0];
     let table = [
         (2, 1, 1024, 1, Ok(())),
@@ -38,49 +53,24 @@ fn an_image_bank_is_empty_after_a_refused_load(rt: HostRuntime) -> Result<(), Fa
     ];
     for (blocks, last, size, fetch, answer) in table {
         let mut places = [0u8; 1025];
-        if 0 < blocks && blocks <= 1025 {
-            places[blocks - 1] = last;
+        let disks = places.get_mut(0..blocks).ok_or("too many")?;
+        if let Some(place) = disks.last_mut() {
+            *place = last;
         }
-        let disks = places.get(0..blocks).ok_or("too many")?;
         let bytes = recording.get(0..size).ok_or("too long")?;
-        loads_again(&rt, &recording, &good, bytes, disks, fetch, answer)?;
+        let mut bank = ImageBank::empty();
+        assert_eq!(rt; bank.load(&recording, &good, 3), Ok(()));
+        assert_eq!(rt; bank.start(1), Ok(()));
+        assert_eq!(rt; bank.load(bytes, disks, fetch), answer);
+        is_fresh_or_empty(&rt, &mut bank, answer, 7, 2);
     }
     Ok(())
-}
-
-// A load over a good one: fresh where it is granted, else empty.
-fn loads_again<'a>(
-    rt: &impl Abort,
-    recording: &'a [u8],
-    good: &'a [u8],
-    bytes: &'a [u8],
-    disks: &'a [u8],
-    fetch: u8,
-    answer: Result<(), BankFault>,
-) -> Result<(), Fail> {
-    let mut bank = ImageBank::empty();
-    assert_eq!(rt; bank.load(recording, good, 3), Ok(()));
-    assert_eq!(rt; bank.start(1), Ok(()));
-    assert_eq!(rt; bank.load(bytes, disks, fetch), answer);
-    if answer == Ok(()) {
-        assert_eq!(rt; bank.state(7), Some(DiskState::Idle));
-        assert_eq!(rt; bank.blocks(), 2);
-        Ok(())
-    } else {
-        is_empty(rt, &mut bank)
-    }
 }
 
 // Blocks, disks, the lost one, how many bytes, the fetch time, and what is told.
 #[test]
 fn a_rebuilt_bank_is_empty_after_a_refused_load(rt: HostRuntime) -> Result<(), Fail> {
-    let mut image = [0u8; IMAGE];
-    fill_image(&mut image, 2);
-    let good = Layout {
-        blocks: BLOCKS,
-        disks: DISKS,
-        lost: 2,
-    };
+    let image = left_of(2);
     let table = [
         (11, 3, 0, 7680, 64, Ok(())),
         (7, 8, 7, 4096, 1, Ok(())),
@@ -99,21 +89,16 @@ fn a_rebuilt_bank_is_empty_after_a_refused_load(rt: HostRuntime) -> Result<(), F
     ];
     for (blocks, disks, lost, size, fetch, answer) in table {
         let bytes = image.get(0..size).ok_or("too long")?;
-        let layout = Layout {
+        let tried = Layout {
             blocks,
             disks,
             lost,
         };
         let mut bank = RebuiltBank::empty();
-        assert_eq!(rt; bank.load(&image, good, 3), Ok(()));
+        assert_eq!(rt; bank.load(&image, layout(2), 3), Ok(()));
         assert_eq!(rt; bank.start(0), Ok(()));
-        assert_eq!(rt; bank.load(bytes, layout, fetch), answer);
-        if answer == Ok(()) {
-            assert_eq!(rt; bank.state(0), Some(DiskState::Idle));
-            assert_eq!(rt; bank.blocks(), blocks);
-        } else {
-            is_empty(&rt, &mut bank)?;
-        }
+        assert_eq!(rt; bank.load(bytes, tried, fetch), answer);
+        is_fresh_or_empty(&rt, &mut bank, answer, 0, blocks);
     }
     Ok(())
 }

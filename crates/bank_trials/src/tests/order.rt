@@ -1,27 +1,17 @@
 // Each refusal once, and which of two is told.
 use crate::recording::*;
-use bank::{Bank, BankFault, ImageBank, Layout, RebuiltBank};
+use crate::tests::banks::*;
+use bank::{Bank, BankFault};
 use refusal::Layer;
 use std::process::Abort;
 use std::test::Fail;
 
 #[test]
 fn both_banks_refuse_in_the_same_order(rt: HostRuntime) {
-    let mut recording = [0u8; RECORDING];
-    fill_recording(&mut recording);
-    let mut whole = ImageBank::empty();
-    assert_eq!(rt; whole.load(&recording, &PLACES, 2), Ok(()));
-    refuses(&rt, &mut whole);
-    let mut image = [0u8; IMAGE];
-    fill_image(&mut image, 1);
-    let layout = Layout {
-        blocks: BLOCKS,
-        disks: DISKS,
-        lost: 1,
-    };
-    let mut rebuilt = RebuiltBank::empty();
-    assert_eq!(rt; rebuilt.load(&image, layout, 2), Ok(()));
-    refuses(&rt, &mut rebuilt);
+    let recording = recorded();
+    refuses(&rt, &mut whole_bank(&rt, &recording, 2));
+    let image = left_of(1);
+    refuses(&rt, &mut rebuilt_bank(&rt, &image, 1, 2));
 }
 
 // Disk 0 has its block ready, disk 1 has steps left, disk 2 is idle, and disk 8 is not there.

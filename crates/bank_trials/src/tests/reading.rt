@@ -1,26 +1,18 @@
 // Every block read back, and every byte of the buffer.
 use crate::recording::*;
-use bank::{Bank, BankFault, DiskState, ImageBank, Layout, RebuiltBank, fetch_block};
+use crate::tests::banks::*;
+use bank::{Bank, BankFault, DiskState, ImageBank, RebuiltBank, fetch_block};
 use std::process::Abort;
 
 const FETCH: u8 = 5;
 
 #[test]
 fn every_block_is_read_back_whichever_disk_is_lost(rt: HostRuntime) {
-    let mut recording = [0u8; RECORDING];
-    fill_recording(&mut recording);
-    let mut whole = ImageBank::empty();
-    assert_eq!(rt; whole.load(&recording, &PLACES, FETCH), Ok(()));
+    let recording = recorded();
+    let mut whole = whole_bank(&rt, &recording, FETCH);
     for lost in 0..DISKS {
-        let mut image = [0u8; IMAGE];
-        fill_image(&mut image, lost);
-        let mut rebuilt = RebuiltBank::empty();
-        let layout = Layout {
-            blocks: BLOCKS,
-            disks: DISKS,
-            lost,
-        };
-        assert_eq!(rt; rebuilt.load(&image, layout, FETCH), Ok(()));
+        let image = left_of(lost);
+        let mut rebuilt = rebuilt_bank(&rt, &image, lost, FETCH);
         reads_back(&rt, &mut rebuilt, &mut whole);
     }
 }
@@ -41,10 +33,8 @@ fn reads_back(rt: &impl Abort, rebuilt: &mut RebuiltBank<'_>, whole: &mut ImageB
 // Buffers of 511, 512 and 520 bytes: the first stays as it is, the last keeps its tail.
 #[test]
 fn a_buffer_keeps_what_lies_past_the_block(rt: HostRuntime) {
-    let mut recording = [0u8; RECORDING];
-    fill_recording(&mut recording);
-    let mut bank = ImageBank::empty();
-    assert_eq!(rt; bank.load(&recording, &PLACES, FETCH), Ok(()));
+    let recording = recorded();
+    let mut bank = whole_bank(&rt, &recording, FETCH);
     assert_eq!(rt; bank.start(4), Ok(()));
     for left in 0..FETCH {
         assert_eq!(rt;

@@ -286,12 +286,11 @@ const BACKWARD: &[u8] =
 
 #[test]
 fn a_backward_plan(rt: HostRuntime) -> Result<(), Fail> {
-    let mut requests = [0u16; 6];
-    let reading = SheetReading::new(SAMPLE, &mut requests);
-    let turned = reading.sheet().turned();
-    let line = told::<Backward>(rt.alloc(), turned, BACKWARD, 4)?;
-    assert_eq!(rt; line.as_str(), "6 0 2");
-    Ok(())
+    with_the_sample(|sheet| {
+        let line = told::<Backward>(rt.alloc(), sheet.turned(), BACKWARD, 4)?;
+        assert_eq!(rt; line.as_str(), "6 0 2");
+        Ok(())
+    })
 }
 
 fn waits_to_the_limit(heap: Global, tail: &[u8]) -> Result<Vec<u8>, AllocError> {
@@ -310,18 +309,16 @@ fn told_at_the_limit(heap: Global, sheet: Sheet, tail: &[u8]) -> Result<String, 
 
 #[test]
 fn the_limit_of_a_plan(rt: HostRuntime) -> Result<(), Fail> {
-    let heap = rt.alloc();
-    let mut requests = [0u16; 6];
-    let reading = SheetReading::new(SAMPLE, &mut requests);
-    let sheet = reading.sheet();
     let table: [(&[u8], &str); 3] = [
         (b"", "refused 7 plan 1048576"),
         (b"E", "refused 18 plan 1048576"),
         (b"Z", "refused 18 plan 1048576"),
     ];
-    for (tail, told) in table {
-        let line = told_at_the_limit(heap, sheet, tail)?;
-        assert_eq!(rt; line.as_str(), told);
-    }
-    Ok(())
+    with_the_sample(|sheet| {
+        for (tail, told) in table {
+            let line = told_at_the_limit(rt.alloc(), sheet, tail)?;
+            assert_eq!(rt; line.as_str(), told);
+        }
+        Ok(())
+    })
 }

@@ -2,6 +2,9 @@
 
 #![tactic(auto)]
 
+mod reads;
 mod recording;
 #[cfg(test)]
 mod tests;
+
+pub use reads::{read_image, read_rebuilt};

@@ -1,7 +1,8 @@
 // Every block read back, and every byte of the buffer.
+use crate::reads::{read_image, read_rebuilt};
 use crate::recording::*;
 use crate::tests::banks::*;
-use bank::{Bank, BankFault, DiskState, ImageBank, RebuiltBank, fetch_block};
+use bank::{Bank, BankFault, DiskState, ImageBank, RebuiltBank};
 use std::process::Abort;
 
 const FETCH: u8 = 5;
@@ -21,10 +22,10 @@ fn every_block_is_read_back_whichever_disk_is_lost(rt: HostRuntime) {
 fn reads_back(rt: &impl Abort, rebuilt: &mut RebuiltBank<'_>, whole: &mut ImageBank<'_>) {
     for block in 0..BLOCKS {
         let mut buffer = [7u8; 512];
-        assert_eq!(rt; fetch_block(rebuilt, block, &mut buffer), Ok(()));
+        assert_eq!(rt; read_rebuilt(rebuilt, block, &mut buffer), Ok(()));
         assert!(rt; holds(&buffer, block, 7));
         let mut again = [8u8; 512];
-        assert_eq!(rt; fetch_block(whole, block, &mut again), Ok(()));
+        assert_eq!(rt; read_image(whole, block, &mut again), Ok(()));
         assert!(rt; holds(&again, block, 8));
         assert_eq!(rt; rebuilt.disk(block), whole.disk(block));
     }
@@ -54,6 +55,6 @@ fn a_buffer_keeps_what_lies_past_the_block(rt: HostRuntime) {
     assert!(rt; holds(&exact, 4, 9));
     assert_eq!(rt; bank.state(1), Some(DiskState::Idle));
     let mut long = [9u8; 520];
-    assert_eq!(rt; fetch_block(&mut bank, 10, &mut long), Ok(()));
+    assert_eq!(rt; read_image(&mut bank, 10, &mut long), Ok(()));
     assert!(rt; holds(&long, 10, 9));
 }

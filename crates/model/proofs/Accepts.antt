@@ -14,6 +14,7 @@ use Rattle.model.proofs.Progress.{PhaseIs, Tells, tells_begin, tells_opens, tell
 use Rattle.model.proofs.Reading.{Bytes, AllPass, reads_back, size_some}
 use Rattle.model.proofs.Writing.{so_far_none, so_far_opens, so_far_trades, so_far_act, so_far_ends}
 use Rattle.model.proofs.Turns.{step_goes, run_more, over_accepts}
+use Rattle.model.proofs.Comes.{Comes, comes_first, comes_on}
 
 -- A plan read so far keeps the model as far as it goes.
 pub record Sofar (side : Side) (homes : List ℕ) (fetch : ℕ) (requests : List ℕ) (o : List ℕ) (a : List Act) (xs : List Exchange) : Type 0 where
@@ -169,6 +170,7 @@ pub record EndedAt (side : Side) (homes : List ℕ) (frames fetch : ℕ) (reques
   pub passed : AllPass (tests_of side homes frames fetch requests room s (length bytes) rest (Known Ends))
   pub front : rest ≡ command_bytes Ends ++ drop 1 rest
   pub enough : length (drop 1 rest) < n
+  pub come : Comes side homes frames fetch requests room bytes (after side homes frames fetch requests room s Ends) (drop 1 rest)
   pub said : run side homes frames fetch requests room n (length bytes) (after side homes frames fetch requests room s Ends) (drop 1 rest) ≡ out
 
 module _ (side : Side) (homes : List ℕ) (frames fetch : ℕ) (requests : List ℕ) (room : ℕ) (fit : Fit homes fetch) (bytes : List ℕ) (small : Bytes bytes)
@@ -179,13 +181,13 @@ module _ (side : Side) (homes : List ℕ) (frames fetch : ℕ) (requests : List 
   -- read so far, and on from here
   abbrev Reads : ℕ → Type 0
   Reads n = (o : List ℕ) (a : List Act) (xs : List Exchange) (s : State) (rest : List ℕ) → Tells side homes fetch o a xs s → Sofar side homes fetch requests o a xs → Counted frames requests room (length bytes) o a xs rest → is_over s.phase ≡ false →
-      bytes ≡ flat_map command_bytes (so_far o a xs) ++ rest → length rest < n → run side homes frames fetch requests room n (length bytes) s rest ≡ out → Result
+      bytes ≡ flat_map command_bytes (so_far o a xs) ++ rest → length rest < n → Comes side homes frames fetch requests room bytes s rest → run side homes frames fetch requests room n (length bytes) s rest ≡ out → Result
 
   by_command : (n : ℕ) → Reads n → (o : List ℕ) (a : List Act) (xs : List Exchange) (s : State) (rest : List ℕ) → Tells side homes fetch o a xs s → Sofar side homes fetch requests o a xs → Counted frames requests room (length bytes) o a xs rest → length rest ≤ length bytes →
       bytes ≡ flat_map command_bytes (so_far o a xs) ++ rest → (c : Command) → AllPass (tests_of side homes frames fetch requests room s (length bytes) rest (Known c)) → rest ≡ command_bytes c ++ drop (size c) rest → length (drop (size c) rest) < n →
-      run side homes frames fetch requests room n (length bytes) (after side homes frames fetch requests room s c) (drop (size c) rest) ≡ out → Result
+      Comes side homes frames fetch requests room bytes (after side homes frames fetch requests room s c) (drop (size c) rest) → run side homes frames fetch requests room n (length bytes) (after side homes frames fetch requests room s c) (drop (size c) rest) ≡ out → Result
   unfolding after plan_bytes served
-  by_command n more o a xs s rest h k t u b (Opens d) p f m r =
+  by_command n more o a xs s rest h k t u b (Opens d) p f m i r =
       let e = filling s.phase d a xs p.1.0 h.phase in
       let h' : Tells side homes fetch o [] [] s = subst (λ (ys : List Exchange). Tells side homes fetch o [] ys s) e.1 (subst (λ (v : List Act). Tells side homes fetch o v xs s) e.0 h) in
       let k' : Sofar side homes fetch requests o [] [] = subst (λ (ys : List Exchange). Sofar side homes fetch requests o [] ys) e.1 (subst (λ (v : List Act). Sofar side homes fetch requests o v xs) e.0 k) in
@@ -204,8 +206,8 @@ module _ (side : Side) (homes : List ℕ) (frames fetch : ℕ) (requests : List 
       })
       refl
       (bytes_more bytes (so_far o [] []) (so_far (o ++ (d ∷ [])) [] []) (Opens d) rest (drop 3 rest) b' f (so_far_opens o d))
-      m r
-  by_command n more o a xs s rest h k t u b (Trades d g) p f m r =
+      m i r
+  by_command n more o a xs s rest h k t u b (Trades d g) p f m i r =
       let x : Exchange = record { brings = d; sends = g; start = s.boundary } in
       let kp : d < length homes = ltb-true d (length homes) p.1.1.1.1.0 in
       let kq : g < length homes = ltb-true g (length homes) p.1.1.1.1.1.1.0 in
@@ -223,8 +225,8 @@ module _ (side : Side) (homes : List ℕ) (frames fetch : ℕ) (requests : List 
       })
       refl
       (bytes_more bytes (so_far o a xs) (so_far o a (xs ++ (x ∷ []))) (Trades d g) rest (drop 5 rest) b f (so_far_trades o a xs x h.boundary))
-      m r
-  by_command n more o a xs s rest h k t u b Serves p f m r =
+      m i r
+  by_command n more o a xs s rest h k t u b Serves p f m i r =
       let e = here_resident fetch o xs s.boundary (get_or requests s.position 0) (get_or s.marks (get_or requests s.position 0) (Away 0)) h.started (h.marks (get_or requests s.position 0)) p.1.1.1.1.1.0 in
       let g : ResidentDuring fetch o xs (get_or requests (served a) 0) (length a) =
       subst (λ (v : ℕ). ResidentDuring fetch o xs (get_or requests v 0) (length a)) h.position (subst (λ (v : ℕ). ResidentDuring fetch o xs (get_or requests s.position 0) v) h.boundary e.2) in
@@ -240,8 +242,8 @@ module _ (side : Side) (homes : List ℕ) (frames fetch : ℕ) (requests : List 
       })
       refl
       (bytes_more bytes (so_far o a xs) (so_far o (a ++ (Serve ∷ [])) xs) Serves rest (drop 1 rest) b f (so_far_act o a xs Serve (λ j l. omega (arith, h.started j l, h.boundary))))
-      m r
-  by_command n more o a xs s rest h k t u b Waits p f m r =
+      m i r
+  by_command n more o a xs s rest h k t u b Waits p f m i r =
       more o (a ++ (Wait ∷ [])) xs (after side homes frames fetch requests room s Waits) (drop 1 rest)
       (tells_waits side homes frames fetch requests room fit o a xs s h)
       (sofar_act side homes fetch requests o a xs Wait k (λ e. absurd (cc)))
@@ -254,12 +256,12 @@ module _ (side : Side) (homes : List ℕ) (frames fetch : ℕ) (requests : List 
       })
       refl
       (bytes_more bytes (so_far o a xs) (so_far o (a ++ (Wait ∷ [])) xs) Waits rest (drop 1 rest) b f (so_far_act o a xs Wait (λ j l. omega (arith, h.started j l, h.boundary))))
-      m r
-  by_command n more o a xs s rest h k t u b Ends p f m r =
-      inr (record { o = o; a = a; xs = xs; s = s; rest = rest; n = n; tells_it = h; keeps_it = k; counts_it = t; read = b; passed = p; front = f; enough = m; said = r })
+      m i r
+  by_command n more o a xs s rest h k t u b Ends p f m i r =
+      inr (record { o = o; a = a; xs = xs; s = s; rest = rest; n = n; tells_it = h; keeps_it = k; counts_it = t; read = b; passed = p; front = f; enough = m; come = i; said = r })
 
   reads_step : (n : ℕ) → Reads n → Reads (suc n)
-  reads_step n more o a xs s rest h k t over b m e =
+  reads_step n more o a xs s rest h k t over b m come e =
       by_turn (step side homes frames fetch requests room (length bytes) s rest) refl (sym (run_more side homes frames fetch requests room (length bytes) n s rest over) ∙ e)
     where
       by_turn : (v : Turn) → step side homes frames fetch requests room (length bytes) s rest ≡ v → onward (λ t more. run side homes frames fetch requests room n (length bytes) t more) s v ≡ out → Result
@@ -273,16 +275,18 @@ module _ (side : Side) (homes : List ℕ) (frames fetch : ℕ) (requests : List 
           let total : length bytes ≡ length (flat_map command_bytes (so_far o a xs)) + length rest = ap (λ (ys : List ℕ). length ys) b ∙ length-append (flat_map command_bytes (so_far o a xs)) rest in
           by_command n more o a xs s rest h k t (omega arith) b c w.1.passes back
           (omega (arith, length-drop (size c) rest, size_some c))
+          (subst (λ (t : State). Comes side homes frames fetch requests room bytes t (drop (size c) rest)) w.1.state
+          (subst (λ (ys : List ℕ). Comes side homes frames fetch requests room bytes s' ys) w.1.rests (comes_on side homes frames fetch requests room bytes s rest s' rest' come i)))
           (subst (λ (t : State). run side homes frames fetch requests room n (length bytes) t (drop (size c) rest) ≡ out) w.1.state
           (subst (λ (ys : List ℕ). run side homes frames fetch requests room n (length bytes) s' ys ≡ out) w.1.rests r))
 
   reads : (n : ℕ) → Reads n
-  reads zero = λ o a xs s rest h k t over b m e. absurd (omega arith)
+  reads zero = λ o a xs s rest h k t over b m come e. absurd (omega arith)
   reads (suc n) = reads_step n (reads n)
 
   pub reads_bytes : verdict side homes frames fetch requests room bytes ≡ out → Result
   unfolding verdict
-  reads_bytes e = reads (suc (length bytes)) [] [] [] begin bytes (tells_begin side homes fetch) (sofar_begin side homes fetch requests) (counted_begin frames requests room bytes) refl (sym (ap (λ (cs : List Command). flat_map command_bytes cs ++ bytes) so_far_none)) (omega arith) e
+  reads_bytes e = reads (suc (length bytes)) [] [] [] begin bytes (tells_begin side homes fetch) (sofar_begin side homes fetch requests) (counted_begin frames requests room bytes) refl (sym (ap (λ (cs : List Command). flat_map command_bytes cs ++ bytes) so_far_none)) (omega arith) (comes_first side homes frames fetch requests room bytes) e
 
 -- What is read to its end, with nothing or something left after it, keeps the model.
 module _ (side : Side) (homes : List ℕ) (frames fetch : ℕ) (requests : List ℕ) (room : ℕ) (bytes : List ℕ) (out : Outcome) (e : EndedAt side homes frames fetch requests room bytes out) where

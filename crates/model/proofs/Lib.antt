@@ -5,6 +5,7 @@ pub mod Progress
 pub mod Reading
 pub mod Writing
 pub mod Turns
+pub mod Comes
 pub mod Accepts
 pub mod Gather
 pub mod Once
@@ -20,6 +21,7 @@ pub mod Steady
 pub mod Reflected
 pub mod Mirroring
 pub mod MirrorWriting
+pub mod Closed
 pub mod Twice
 pub mod Sizes
 pub mod Letters

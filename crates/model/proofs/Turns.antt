@@ -53,7 +53,7 @@ module _ (side : Side) (homes : List ℕ) (frames fetch : ℕ) (requests : List 
       ≡ Stops (cond (within_limit total (total - length rest) 1) Verdict.OutOfPlace Verdict.OverLimit) (total - length rest)
   over_turn s rest ph f e = grind arith
 
-  over_step : (s : State) (rest : List ℕ) → is_over s.phase ≡ true →
+  pub over_step : (s : State) (rest : List ℕ) → is_over s.phase ≡ true →
       step side homes frames fetch requests room total s rest ≡ Stops (cond (within_limit total (total - length rest) 1) Verdict.OutOfPlace Verdict.OverLimit) (total - length rest)
   unfolding step
   over_step s rest over = over_turn s rest s.phase (found rest) over

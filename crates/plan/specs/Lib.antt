@@ -1,5 +1,6 @@
 pub mod Admitted
 pub mod Checks
+pub mod Endings
 pub mod Fronts
 pub mod Headings
 pub mod Noted

@@ -7,14 +7,13 @@ ghost use Rattle.plan.specs.Steps.{verdict_for};
 
 use crate::counts::Counts;
 use crate::fault::PlanFault;
+use crate::following::follow;
 use crate::side::Side;
-use crate::verdict::judge;
 use model::Exchange;
-use records::List;
 use sheet::Sheet;
 
 // Reads a plan against a sheet. Its exchanges go into the slots, from the first one on; no other slot is changed.
-#[tactic(auto, using(crate::proofs::Exactness::answer_is, crate::proofs::Exactness::slots_are, crate::proofs::Exactness::exact_on))]
+#[tactic(auto, using(crate::proofs::Exactness::exact_on))]
 pub fn check<S: Side>(
     sheet: Sheet,
     plan: &[u8],
@@ -24,6 +23,6 @@ pub fn check<S: Side>(
     ensures slots { slots.new ≡ written_over (verdict_for S.Lane.side (meant sheet.entry) (length slots.old) plan.now).records slots.old }
     ensures exact { ChecksExactly S.Lane.side (meant sheet.entry) (length slots.old) plan.now }
 {
-    let mut list = List::new(slots);
-    judge::<S>(sheet, plan, &mut list)
+    let ending = follow::<S>(sheet, plan, slots)?;
+    Ok(ending.counts)
 }

@@ -5,7 +5,9 @@
 mod admitting;
 mod checking;
 mod counts;
+mod ending;
 mod fault;
+mod following;
 mod front;
 mod giving;
 mod judging;

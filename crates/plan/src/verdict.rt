@@ -1,15 +1,17 @@
 // The commands of a plan, one after the other, to its end.
-ghost use Rattle.std.specs.Prelude.{◌≡◌, ℕ, List as ListOf, length};
+ghost use Rattle.std.specs.Prelude.{◌≡◌, ℕ, List as ListOf, length, IfOk};
 ghost use Rattle.model.specs.declared.Exchange.{Exchange as Trade};
 ghost use Rattle.model.specs.Verdict.{finished};
 ghost use Rattle.records.specs.Pushed.{OnlyPushed};
 ghost use Rattle.records.specs.Records.{held};
 ghost use Rattle.sheet.specs.Sheets.{meant};
 ghost use Rattle.plan.specs.Checks.{outcome_of};
+ghost use Rattle.plan.specs.Endings.{counted, ClosesAs};
 ghost use Rattle.plan.specs.Steps.{verdict_for};
 ghost use Rattle.plan.specs.Tracks.{whole};
 
 use crate::counts::Counts;
+use crate::ending::Ending;
 use crate::fault::PlanFault;
 use crate::reader::PlanReader;
 use crate::side::Lane;
@@ -32,9 +34,10 @@ pub(crate) fn judge<S: Lane>(
     sheet: Sheet,
     bytes: &[u8],
     list: &mut List<Exchange>,
-) -> Result<Counts, PlanFault>
+) -> Result<Ending, PlanFault>
     requires { list.old.len ≡ 0 }
-    ensures outcome { outcome_of result (held list.new.len list.new.slots.now) ≡ verdict_for S.Lane.side (meant sheet.entry) (length list.old.slots.now) bytes.now }
+    ensures outcome { outcome_of (counted result) (held list.new.len list.new.slots.now) ≡ verdict_for S.Lane.side (meant sheet.entry) (length list.old.slots.now) bytes.now }
+    ensures closing { IfOk result (ClosesAs S.Lane.side (meant sheet.entry) (length list.old.slots.now) bytes.now) }
     ensures pushed { OnlyPushed list.old list.new }
 {
     let mut track = Track::new();
@@ -42,9 +45,13 @@ pub(crate) fn judge<S: Lane>(
     while !track.is_finished(reader) {
         reader = track.step::<S>(sheet, reader, list)?;
     }
-    Ok(Counts {
+    let counts = Counts {
         steps: track.boundary,
         waits: track.waits,
         exchanges: list.len(),
+    };
+    Ok(Ending {
+        counts,
+        places: track.places,
     })
 }

@@ -3,3 +3,4 @@ pub mod Looped
 pub mod Stepped
 pub mod Traded
 pub mod Turned
+pub mod Wrote

@@ -6,5 +6,7 @@ pub mod Headings
 pub mod Noted
 pub mod Numbers
 pub mod Receipts
+pub mod Rewinds
 pub mod Steps
 pub mod Tracks
+pub mod Writers

@@ -20,6 +20,8 @@ mod side;
 mod step;
 mod track;
 mod verdict;
+mod writer;
+mod writing;
 
 pub use checking::check;
 pub use counts::Counts;

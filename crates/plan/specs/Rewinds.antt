@@ -1,0 +1,27 @@
+-- A plan read from its end, and how far its mirror is written. Assumes nothing.
+use Rattle.std.specs.Prelude.{◌≡◌, ℕ, ◌-◌, ◌<◌, ◌≤◌, List, map, reverse, length, take, get_or}
+use Rattle.model.specs.declared.Exchange.{Exchange}
+use Rattle.model.specs.Timetable.{none, Plan}
+use Rattle.model.specs.declared.Command.{Command}
+use Rattle.model.specs.PlanBytes.{so_far}
+use Rattle.model.specs.Mirror.{reflected}
+
+-- a list that another begins with
+pub record Front {X : Type 0} (xs ys : List X) : Type 0 where
+  pub long : length xs ≤ length ys
+  pub same : xs ≡ take (length xs) ys
+
+-- the last exchange of a list, if it has one
+abbrev pub last_of : List Exchange → Exchange
+last_of xs = get_or xs (length xs - 1) none
+
+-- The commands of a mirror that opens with these blocks, up to a boundary of its own, with so many exchanges of the plan still to come.
+abbrev pub mirror_to : List ℕ → ℕ → Plan → ℕ → ℕ → List Command
+mirror_to o fetch plan t left =
+    so_far o (take t (reverse plan.acts)) (take (length plan.exchanges - left) (reverse (map (reflected (length plan.acts) fetch) plan.exchanges)))
+
+-- the exchanges of a list that have started by a step, where starts never fall along it
+pub record StartedBy (step : ℕ) (xs ys : List Exchange) : Type 0 where
+  pub front : Front ys xs
+  pub earlier : 0 < length ys → (last_of ys).start ≤ step
+  pub later : (k : ℕ) → length ys ≤ k → k < length xs → step < (get_or xs k none).start

@@ -1,5 +1,6 @@
 pub mod Exactness
 pub mod Looped
+pub mod Rewound
 pub mod Stepped
 pub mod Traded
 pub mod Turned

@@ -15,7 +15,7 @@ pub(crate) enum NoCommand {
 }
 
 // A byte of a slice, 0 past its end.
-fn byte_at(bytes: &[u8], i: usize) -> u8
+pub(crate) fn byte_at(bytes: &[u8], i: usize) -> u8
     ensures { result ≡ slice_index bytes.now i }
 {
     bytes.get(i).copied().unwrap_or(0)

@@ -38,4 +38,37 @@ impl Writer<'_> {
         }
         rest
     }
+
+    // One step of the mirror: what lands at this boundary of the plan, then the step before the boundary.
+    fn write_step<'a>(&mut self, rewind: Rewind<'a>, boundary: u32) -> Rewind<'a>
+        requires { 0 < boundary }
+        ensures rewound { (plan : Plan) (t : ℕ) → Rewound plan t rewind.entry → t + boundary ≡ length plan.acts → Rewound plan (t + 1) result }
+        ensures more { (plan : Plan) (o area : ListOf ℕ) (t : ℕ) → Rewound plan t rewind.entry → t + boundary ≡ length plan.acts → Said (mirror_to o rewind.entry.fetch plan t (length rewind.entry.left.now)) area self.old → Said (mirror_to o rewind.entry.fetch plan (t + 1) (length result.left.now)) area self.new }
+        ensures fetch { result.fetch ≡ rewind.entry.fetch }
+        ensures lent { self.new.area.ghost_name ≡ self.old.area.ghost_name }
+    {
+        let step = boundary - 1;
+        let left = self.write_landed(rewind.left, boundary, rewind.fetch);
+        let started = started_by(rewind.started, step);
+        let letter = letter(rewind.plan, rewind.frames, step, started.len());
+        self.write(step_by(letter));
+        Rewind {
+            plan: rewind.plan,
+            frames: rewind.frames,
+            fetch: rewind.fetch,
+            left,
+            started,
+        }
+    }
+
+    // All steps of the mirror, from the end of the plan.
+    pub(crate) fn write_steps(&mut self, rewind: Rewind, steps: u32)
+        ensures more { (plan : Plan) (o area : ListOf ℕ) → Rewound plan 0 rewind.entry → steps ≡ length plan.acts → Said (mirror_to o rewind.entry.fetch plan 0 (length rewind.entry.left.now)) area self.old → Said (mirror_to o rewind.entry.fetch plan (length plan.acts) 0) area self.new }
+        ensures lent { self.new.area.ghost_name ≡ self.old.area.ghost_name }
+    {
+        let mut reached = rewind;
+        for step in 0..steps {
+            reached = self.write_step(reached, steps - step);
+        }
+    }
 }

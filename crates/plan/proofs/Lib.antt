@@ -1,5 +1,8 @@
+pub mod Ends
 pub mod Exactness
 pub mod Looped
+pub mod Mirrored
+pub mod Reflects
 pub mod Rewound
 pub mod StepBack
 pub mod Stepped

@@ -3,8 +3,10 @@ pub mod Checks
 pub mod Endings
 pub mod Fronts
 pub mod Headings
+pub mod Mirrors
 pub mod Noted
 pub mod Numbers
+pub mod Plans
 pub mod Receipts
 pub mod Rewinds
 pub mod Steps

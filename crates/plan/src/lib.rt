@@ -3,6 +3,7 @@
 #![tactic(auto)]
 
 mod admitting;
+mod backwards;
 mod checking;
 mod counts;
 mod ending;
@@ -11,6 +12,7 @@ mod following;
 mod front;
 mod giving;
 mod judging;
+mod mirror_fault;
 mod mirroring;
 mod noting;
 mod passing;
@@ -29,6 +31,8 @@ mod writing;
 pub use checking::check;
 pub use counts::Counts;
 pub use fault::PlanFault;
+pub use mirror_fault::MirrorFault;
+pub use mirroring::mirror;
 pub use places::Places;
 pub use receipt::Receipt;
 pub use side::{Backward, Forward, Headed, Heading, Lane, Side};

@@ -2,10 +2,33 @@
 ghost use Rattle.std.specs.Prelude.{◌≡◌, ◌≢◌, ◌+◌, ◌*◌, ◌<◌, ◌≤◌, length, slice_index, MatchOption};
 ghost use Rattle.std.specs.List.{IsLastAndRest};
 ghost use Rattle.model.specs.declared.Command.TheVariants.{Trades};
+ghost use Rattle.sheet.specs.Headers.{rack_of};
 ghost use Rattle.plan.specs.Rewinds.{Front, StartedBy, last_of};
 
 use crate::front::byte_at;
+use crate::rewind::Rewind;
 use model::{Command, Exchange};
+use sheet::Rack;
+
+impl<'a> Rewind<'a> {
+    // Before the first step of the mirror: all exchanges have started, and none is written.
+    pub(crate) fn new(plan: &'a [u8], rack: &Rack, records: &'a [Exchange]) -> Self
+        requires { 5 * length records.now ≤ length plan.now }
+        ensures plan { result.plan.now ≡ plan.now }
+        ensures frames { result.frames ≡ (rack_of rack.now).frames }
+        ensures fetch { result.fetch ≡ (rack_of rack.now).fetch }
+        ensures left { result.left.now ≡ records.now }
+        ensures started { result.started.now ≡ records.now }
+    {
+        Rewind {
+            plan,
+            frames: rack.frames(),
+            fetch: rack.fetch(),
+            left: records,
+            started: records,
+        }
+    }
+}
 
 // Where an exchange lands.
 fn landing(exchange: Exchange, fetch: u8) -> u64

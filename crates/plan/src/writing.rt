@@ -2,12 +2,21 @@
 ghost use Rattle.std.specs.Prelude.{◌≡◌, ℕ, ◌≤◌, List as ListOf, [], ◌∷◌, ◌++◌, length, IsTrue, ◌↔◌};
 ghost use Rattle.model.specs.PlanBytes.{so_far};
 ghost use Rattle.model.specs.declared.Command.{Command as Order};
-ghost use Rattle.plan.specs.Endings.{staying};
+ghost use Rattle.plan.specs.Endings.{here_at, staying};
 ghost use Rattle.plan.specs.Writers.{Wrote, Said};
 
 use crate::ending::Ending;
 use crate::writer::Writer;
 use model::Command;
+
+impl Ending {
+    // Whether a block is here at the last boundary.
+    fn stays(&self, block: u16) -> bool
+        ensures { result ≡ here_at self.now.places self.now.counts.steps block }
+    {
+        self.places.is_here(block, self.counts.steps)
+    }
+}
 
 impl<'a> Writer<'a> {
     // Nothing is written yet.
@@ -67,7 +76,7 @@ impl Writer<'_> {
         ensures lent { self.new.area.ghost_name ≡ self.old.area.ghost_name }
     {
         for block in 0..blocks {
-            if ending.places.is_here(block, ending.counts.steps) {
+            if ending.stays(block) {
                 self.write(Command::Opens(block));
             }
         }

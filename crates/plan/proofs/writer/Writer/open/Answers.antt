@@ -3,7 +3,7 @@ use Rattle.plan.specs.Endings.{here_at}
 use Rattle.plan.specs.declared.writer.Writer.{Writer}
 use Rattle.plan.proofs.Wrote.{opens_none, opens_on, skipped_on}
 use Rattle.plan.proofs.writer.Writer.open.Goals as goal
-use Rattle.plan.proofs.writer.Writer.open.Goals.{then-is_here, else-is_here}
+use Rattle.plan.proofs.writer.Writer.open.Goals.{then-stays, else-stays}
 
 pub loop-block-init : goal.loop-block-init
 loop-block-init c = record { more = λ area w. opens_none (here_at c.args.ending.now.places c.args.ending.now.counts.steps) area _ w; lent = refl }
@@ -13,17 +13,17 @@ loop-block-preserved c =
     let p = here_at c.args.ending.now.places c.args.ending.now.counts.steps in
     let n = c.loop-block.block in
     let inv = c.loop-block.invariant in
-    elim c.if-is_here.branch [
-      | then-is_here w ↦
+    elim c.if-stays.branch [
+      | then-stays w ↦
           let lent = ap (λ (v : Writer). v.area.ghost_name) w.self-is in
           record {
-            more = λ area h. opens_on p n area _ (sym c.is_here.ensures ∙ w.if-is_here.true) (rw w.self-is (w.write.ensures.more _ area (inv.more area h)));
+            more = λ area h. opens_on p n area _ (sym c.stays.ensures ∙ w.if-stays.true) (rw w.self-is (w.write.ensures.more _ area (inv.more area h)));
             lent = lent ∙ w.write.ensures.lent ∙ inv.lent;
           }
-      | else-is_here w ↦
+      | else-stays w ↦
           let lent = ap (λ (v : Writer). v.area.ghost_name) w.self-is in
           record {
-            more = λ area h. skipped_on p n area _ (sym c.is_here.ensures ∙ w.if-is_here.false) (rw w.self-is (inv.more area h));
+            more = λ area h. skipped_on p n area _ (sym c.stays.ensures ∙ w.if-stays.false) (rw w.self-is (inv.more area h));
             lent = lent ∙ inv.lent;
           }
     ]

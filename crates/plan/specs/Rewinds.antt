@@ -27,8 +27,8 @@ pub record StartedBy (step : ℕ) (xs ys : List Exchange) : Type 0 where
   pub earlier : 0 < length ys → (last_of ys).start ≤ step
   pub later : (k : ℕ) → length ys ≤ k → k < length xs → step < (get_or xs k none).start
 
--- A plan in order, read from its end up to a boundary that is so many steps before it: the exchanges still to be written are those that
--- land at this boundary or before it, and none that starts before this boundary is left out of those that have started.
+-- A plan in order, read from its end so many steps back: still to be written are the exchanges that land at the boundary reached or before
+-- it, and those that start before it are all among the started.
 pub record Rewound (plan : Plan) (t : ℕ) (r : Rewind) : Type 0 where
   pub bytes : r.plan.now ≡ plan_bytes plan
   pub fills : length plan.opening ≡ r.frames

@@ -2,6 +2,7 @@ pub mod Accepts
 pub mod Exactly
 pub mod Fronts
 pub mod Kept
+pub mod Known
 pub mod Letters
 pub mod Only
 pub mod Runs

@@ -1,0 +1,14 @@
+use Rattle.std.proofs.Common.{◌∙◌, sym, arith}
+use Rattle.planner.proofs.Indexing.{asked, passed, no_gap}
+use Rattle.planner.proofs.uses.NextUses.pass.Goals as goal
+
+pub remove-requires : goal.remove-requires
+remove-requires c = let a = asked c.args.sheet c.args.position c.in-Some.block c.requires.within (sym c.request.ensures ∙ c.in-Some.is) in record { known = a.known; within = a.within }
+
+pub returns-in-Some : goal.returns-in-Some
+returns-in-Some c =
+    rw (c.remove.ensures.next, c.remove.ensures.after)
+    (passed c.args.sheet c.args.position c.in-Some.block c.args.self.now.next c.args.self.now.after c.requires.index c.requires.within (sym c.request.ensures ∙ c.in-Some.is) (omega arith))
+
+pub returns-in_default : goal.returns-in_default
+returns-in_default c = absurd (no_gap c.args.sheet c.args.position c.requires.within (sym c.request.ensures ∙ c.in_default.is))

@@ -1,5 +1,6 @@
 pub mod Ends
 pub mod Exactness
+pub mod Freed
 pub mod Looped
 pub mod Mirrored
 pub mod Reflects

@@ -1,4 +1,4 @@
-ghost use Rattle.std.specs.Prelude.{◌≡◌, nat_le, slice_index, slice_index_or, slice_set};
+ghost use Rattle.std.specs.Prelude.{◌≡◌, false, map, nat_le, slice_index, slice_index_or, slice_set};
 ghost use Rattle.model.specs.Verdict.{blank_marks, blank_idle, is_here_at, is_away_at};
 ghost use Rattle.model.specs.declared.Mark.TheVariants.{Away};
 
@@ -65,6 +65,15 @@ impl Places {
         ensures { result ≡ nat_le (slice_index self.now.idle disk) boundary }
     {
         self.idle.get(usize::from(disk)).copied().unwrap_or(0) <= boundary
+    }
+
+    // Whether there is such a disk and it carries nothing at a boundary.
+    #[tactic(auto, using(crate::proofs::Freed::is_freed))]
+    pub fn is_free(&self, disk: u8, boundary: u32) -> bool
+        ensures { result ≡ slice_index_or (map (λ from. nat_le from boundary) self.now.idle) disk false }
+    {
+        let from = self.idle.get(usize::from(disk)).copied();
+        from.is_some_and(|from| from <= boundary)
     }
 
     // A block is here, or away, from a boundary on.

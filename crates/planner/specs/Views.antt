@@ -13,5 +13,6 @@ use Rattle.planner.specs.Boards.{state_of}
 abbrev pub seen_of : Side → Sheet → State → subject.View
 seen_of side sheet s = seen side sheet.rack.homes sheet.rack.frames sheet.rack.fetch sheet.requests s
 
-abbrev pub shows : View → subject.View
+-- Rules and their proofs see no further than this name.
+unfoldable pub shows : View → subject.View
 shows v = seen_of (side_of v.heading) (meant v.sheet) (state_of v.board.now)

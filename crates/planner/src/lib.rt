@@ -4,6 +4,7 @@
 
 mod board;
 mod rule;
+mod seeing;
 mod uses;
 mod view;
 

@@ -1,4 +1,4 @@
-ghost use Rattle.std.specs.Prelude.{◌≡◌, ◌+◌, ◌<◌, length, replicate, slice_index, slice_set};
+ghost use Rattle.std.specs.Prelude.{◌≡◌, ◌+◌, ◌<◌, ◌≤◌, length, replicate, MatchOption, slice_index, slice_set};
 ghost use Rattle.sheet.specs.Sheets.{meant};
 ghost use Rattle.planner.specs.Uses.{Indexes};
 
@@ -44,6 +44,13 @@ impl NextUses {
         ensures after { self.new.after ≡ self.old.after }
     {
         self.next[usize::from(block)] = self.after[position];
+    }
+
+    // Where a block is used next, if there is such a block.
+    pub(crate) fn of(&self, block: u16) -> Option<u16>
+        ensures { MatchOption result (1024 ≤ block) (λ next. (block < 1024) × (next ≡ slice_index self.now.next block)) }
+    {
+        self.next.get(usize::from(block)).copied()
     }
 
     // Past the last request no block is used again.

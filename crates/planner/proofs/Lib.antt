@@ -1,2 +1,3 @@
+pub mod Best
 pub mod Indexing
 pub mod Shown

@@ -1,3 +1,4 @@
 pub mod Boards
+pub mod Tests
 pub mod Uses
 pub mod Views

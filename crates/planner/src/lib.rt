@@ -3,6 +3,7 @@
 #![tactic(auto)]
 
 mod board;
+mod finding;
 mod rule;
 mod seeing;
 mod uses;

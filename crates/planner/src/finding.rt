@@ -1,0 +1,48 @@
+// The block that a view finds for a rule: of those that pass a test the one that is used next, or last.
+ghost use Rattle.std.specs.Prelude.{◌≡◌, ℕ, Bool};
+ghost use Rattle.model.specs.View.{better, blocks, latest, latest_of, latest_on, next_use};
+ghost use Rattle.planner.specs.Tests.{Tells};
+ghost use Rattle.planner.specs.Views.{shows};
+
+use crate::view::View;
+
+impl View<'_> {
+    // Of a block found before and one more the one with the later next use; the first keeps a tie.
+    fn later(&self, best: Option<u16>, block: u16) -> Option<u16>
+        ensures { result ≡ better (next_use (shows self.now)) block best }
+    {
+        match best {
+            Some(found) if self.next_use(found) >= self.next_use(block) => best,
+            _ => Some(block),
+        }
+    }
+
+    // Of the blocks that may go out and pass a test the one with the latest next use.
+    fn latest_of<F: Fn(u16) -> bool>(&self, passes: F) -> Option<u16>
+        requires { F.IsAlwaysCallable passes }
+        ensures { (p : ℕ → Bool) → Tells F.post passes (blocks (shows self.now)) p → result ≡ latest_of (shows self.now) p }
+    {
+        let mut best = None;
+        for block in 0..self.blocks() {
+            if !self.may_go_out(block) || !passes(block) {
+                continue;
+            }
+            best = self.later(best, block);
+        }
+        best
+    }
+
+    // The resident block with the latest next use.
+    pub fn latest(&self) -> Option<u16>
+        ensures { result ≡ latest (shows self.now) }
+    {
+        self.latest_of(|_| true)
+    }
+
+    // The same of the blocks of one disk.
+    pub fn latest_on(&self, disk: u8) -> Option<u16>
+        ensures { result ≡ latest_on (shows self.now) disk }
+    {
+        self.latest_of(|block| self.home(block) == disk)
+    }
+}

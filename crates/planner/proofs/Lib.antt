@@ -1,3 +1,4 @@
 pub mod Best
 pub mod Indexing
 pub mod Shown
+pub mod Soonest

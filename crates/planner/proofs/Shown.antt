@@ -3,12 +3,12 @@ use Rattle.std.proofs.Common.{◌≡◌, ℕ, suc, ◌+◌, ◌-◌, ◌<◌, �
 use Rattle.std.specs.List.{slice_get}
 use Rattle.std.specs.Option.{unwrap_or}
 use Rattle.std.proofs.lemmas.List.{get_or_past, length-map, get_or-map}
-use Rattle.std.proofs.lemmas.Option.{unwrap_or-slice_get, get_or_from_slice_get, slice_get_within, slice_get_past}
-use Rattle.std.proofs.lemmas.Bool.{le-ltb, eqb-true, cases_lt}
+use Rattle.std.proofs.lemmas.Option.{unwrap_or-slice_get, get_or_from_slice_get, slice_get-get_or, slice_get_past}
+use Rattle.std.proofs.lemmas.Bool.{lt-ltb, le-ltb, eqb-true, cases_lt}
 use Rattle.model.specs.declared.Mark.{Mark}
 use Rattle.model.specs.declared.Mark.TheVariants.{Away, Here}
 use Rattle.model.specs.Verdict.{is_away_at, is_here_at}
-use Rattle.model.specs.View.{Place, missing, may_go_out, is_free, is_absent, next_use, wanted_block}
+use Rattle.model.specs.View.{Place, missing, may_go_out, is_free, is_absent, next_use, requested_at, wanted_block}
 use Rattle.model.specs.Pass.{each, place_by, named_by}
 use Rattle.model.proofs.Seeing.{each_length, sees_missing, sees_out, Requested, use_requested}
 use Rattle.model.proofs.Answering.{first_is}
@@ -64,3 +64,24 @@ module _ (v : Viewed) where
       go : (next_use (shows v) b < length (meant v.sheet).requests) ⊎ (length (meant v.sheet).requests ≤ next_use (shows v) b) → length (meant v.sheet).requests ≡ next_use (shows v) b
       go (inl m) = let r = use_requested (shows v) b m in absurd (omega (arith, known v.sheet r.at r.within, few_blocks v.sheet, r.is))
       go (inr m) = let f = first_is (shows v) (λ r. eqb r b) v.reached in omega (arith, f.within)
+
+  -- the position is no further than the requests, each of a block that there is
+  pub reached : (shows v).position ≤ length (shows v).requests
+  unfolding shows
+  reached = v.reached
+
+  pub asks_known : (i : ℕ) → i < length (shows v).requests → get_or (shows v).requests i 0 < length (shows v).homes
+  unfolding shows
+  asks_known i l = known v.sheet i l
+
+  pub length_is : (n : ℕ) → n ≡ length (meant v.sheet).requests → n ≡ length (shows v).requests
+  unfolding shows
+  length_is n e = e
+
+  pub request_is : (o : Option ℕ) (k : ℕ) → o ≡ slice_get (meant v.sheet).requests k → o ≡ requested_at (shows v) k
+  unfolding shows
+  request_is o k e = e ∙ go (cases_lt k (length (meant v.sheet).requests))
+    where
+      go : (k < length (meant v.sheet).requests) ⊎ (length (meant v.sheet).requests ≤ k) → slice_get (meant v.sheet).requests k ≡ requested_at (shows v) k
+      go (inl l) = rw (lt-ltb k (length (meant v.sheet).requests) l) (slice_get-get_or (meant v.sheet).requests k 0 l)
+      go (inr l) = rw (le-ltb k (length (meant v.sheet).requests) l) (slice_get_past (meant v.sheet).requests k l)

@@ -1,6 +1,6 @@
 // The block that a view finds for a rule: of those that pass a test the one that is used next, or last.
 ghost use Rattle.std.specs.Prelude.{◌≡◌, ℕ, Bool};
-ghost use Rattle.model.specs.View.{better, blocks, latest, latest_of, latest_on, next_use};
+ghost use Rattle.model.specs.View.{better, blocks, first_from, first_missing, first_missing_on, latest, latest_of, latest_on, next_use, requested_at};
 ghost use Rattle.planner.specs.Tests.{Tells};
 ghost use Rattle.planner.specs.Views.{shows};
 
@@ -30,6 +30,35 @@ impl View<'_> {
             best = self.later(best, block);
         }
         best
+    }
+
+    // Of the blocks that pass a test the one that is requested first, from the present position on.
+    fn first_of<F: Fn(u16) -> bool>(&self, passes: F) -> Option<u16>
+        requires { F.IsAlwaysCallable passes }
+        ensures { (p : ℕ → Bool) → Tells F.post passes (blocks (shows self.now)) p → result ≡ requested_at (shows self.now) (first_from (shows self.now) p) }
+    {
+        let mut first = self.sheet.len();
+        for block in 0..self.blocks() {
+            if !passes(block) {
+                continue;
+            }
+            first = first.min(self.next_use(block));
+        }
+        self.sheet.request(first)
+    }
+
+    // The first missing block.
+    pub fn first_missing(&self) -> Option<u16>
+        ensures { result ≡ first_missing (shows self.now) }
+    {
+        self.first_of(|block| self.is_missing(block))
+    }
+
+    // The same of the blocks of one disk.
+    pub fn first_missing_on(&self, disk: u8) -> Option<u16>
+        ensures { result ≡ first_missing_on (shows self.now) disk }
+    {
+        self.first_of(|block| self.is_missing(block) && self.home(block) == disk)
     }
 
     // The resident block with the latest next use.

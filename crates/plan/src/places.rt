@@ -1,5 +1,5 @@
-ghost use Rattle.std.specs.Prelude.{◌≡◌, false, map, nat_le, slice_index, slice_index_or, slice_set};
-ghost use Rattle.model.specs.Verdict.{blank_marks, blank_idle, is_here_at, is_away_at};
+ghost use Rattle.std.specs.Prelude.{◌≡◌, false, length, map, nat_le, slice_index, slice_index_or, slice_set};
+ghost use Rattle.model.specs.Verdict.{blank_marks, blank_idle, is_here_at, is_away_at, most_disks};
 ghost use Rattle.model.specs.declared.Mark.TheVariants.{Away};
 
 use model::Mark;
@@ -65,6 +65,14 @@ impl Places {
         ensures { result ≡ nat_le (slice_index self.now.idle disk) boundary }
     {
         self.idle.get(usize::from(disk)).copied().unwrap_or(0) <= boundary
+    }
+
+    // How many disks are kept: as many as a rack can have.
+    pub fn disks(&self) -> u8
+        ensures disks { result ≡ length self.now.idle }
+        ensures most { result ≡ most_disks }
+    {
+        self.idle.len() as u8
     }
 
     // Whether there is such a disk and it carries nothing at a boundary.

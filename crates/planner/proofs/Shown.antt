@@ -85,3 +85,7 @@ module _ (v : Viewed) where
       go : (k < length (meant v.sheet).requests) ⊎ (length (meant v.sheet).requests ≤ k) → slice_get (meant v.sheet).requests k ≡ requested_at (shows v) k
       go (inl l) = rw (lt-ltb k (length (meant v.sheet).requests) l) (slice_get-get_or (meant v.sheet).requests k 0 l)
       go (inr l) = rw (le-ltb k (length (meant v.sheet).requests) l) (slice_get_past (meant v.sheet).requests k l)
+
+  pub disks_are : (n : ℕ) → n ≡ length v.board.now.places.idle → n ≡ length (shows v).free
+  unfolding shows
+  disks_are n e = let f = λ (x : ℕ). leb x v.board.now.boundary in omega (arith, length-map v.board.now.places.idle f)

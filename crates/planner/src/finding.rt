@@ -1,6 +1,6 @@
 // The block that a view finds for a rule: of those that pass a test the one that is used next, or last.
 ghost use Rattle.std.specs.Prelude.{◌≡◌, ℕ, Bool};
-ghost use Rattle.model.specs.View.{better, blocks, first_from, first_missing, first_missing_on, latest, latest_of, latest_on, next_use, requested_at};
+ghost use Rattle.model.specs.View.{better, blocks, first_from, first_missing, first_missing_on, latest, latest_of, latest_on, lawful, next_use, requested_at};
 ghost use Rattle.planner.specs.Tests.{Tells};
 ghost use Rattle.planner.specs.Views.{shows};
 
@@ -73,5 +73,12 @@ impl View<'_> {
         ensures { result ≡ latest_on (shows self.now) disk }
     {
         self.latest_of(|block| self.home(block) == disk)
+    }
+
+    // The same of the blocks that a block may come in for.
+    pub fn latest_lawful(&self, brings: u16) -> Option<u16>
+        ensures { result ≡ latest_of (shows self.now) (λ block. lawful (shows self.now) brings block) }
+    {
+        self.latest_of(|block| self.is_lawful(brings, block))
     }
 }

@@ -1,5 +1,5 @@
 // What a view tells of the state and of single blocks and disks.
-ghost use Rattle.std.specs.Prelude.{◌≡◌, ◌≤◌, slice_index};
+ghost use Rattle.std.specs.Prelude.{◌≡◌, ◌≤◌, length, slice_index};
 ghost use Rattle.model.specs.View.{blocks, disk_of, is_free, lawful, may_go_out, missing, next_use, wanted_block};
 ghost use Rattle.sheet.specs.Sheets.{meant};
 ghost use Rattle.plan.specs.Headings.{side_of};
@@ -94,5 +94,33 @@ impl<'a> View<'a> {
             Some(next) => usize::from(next),
             None => self.sheet.len(),
         }
+    }
+
+    // How many disks are told of: as many as a rack can have. Those that the rack lacks carry nothing.
+    #[tactic(auto, using(crate::proofs::Shown::disks_are))]
+    pub fn disks(&self) -> u8
+        ensures { result ≡ length (shows self.now).free }
+    {
+        self.board.places.disks()
+    }
+
+    // The disk that an exchange of two blocks occupies.
+    pub fn disk_of(&self, brings: u16, sends: u16) -> u8
+        ensures { result ≡ disk_of (shows self.now) brings sends }
+    {
+        match self.heading() {
+            Heading::Forward => self.home(brings),
+            Heading::Backward => self.home(sends),
+        }
+    }
+
+    // Whether an exchange of two blocks may start.
+    pub fn is_lawful(&self, brings: u16, sends: u16) -> bool
+        ensures { result ≡ lawful (shows self.now) brings sends }
+    {
+        brings < self.blocks()
+            && self.is_missing(brings)
+            && self.may_go_out(sends)
+            && self.is_free(self.disk_of(brings, sends))
     }
 }

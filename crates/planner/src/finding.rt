@@ -8,7 +8,7 @@ use crate::view::View;
 
 impl View<'_> {
     // Of a block found before and one more the one with the later next use; the first keeps a tie.
-    fn later(&self, best: Option<u16>, block: u16) -> Option<u16>
+    pub(crate) fn later(&self, best: Option<u16>, block: u16) -> Option<u16>
         ensures { result ≡ better (next_use (shows self.now)) block best }
     {
         match best {

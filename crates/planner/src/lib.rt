@@ -2,12 +2,16 @@
 
 #![tactic(auto)]
 
+mod aggressive;
 mod board;
+mod demand;
 mod finding;
 mod rule;
 mod seeing;
 mod uses;
 mod view;
 
+pub use aggressive::Aggressive;
+pub use demand::Demand;
 pub use rule::Rule;
 pub use view::View;

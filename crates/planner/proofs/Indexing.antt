@@ -1,10 +1,5 @@
 -- What one request more or less makes of the index. Assumes nothing.
-use Rattle.std.proofs.Common.{◌≡◌, ℕ, suc, ◌+◌, ◌<◌, ◌≤◌, eqb, ◌⊎◌, inl, inr, List, [], ◌∷◌, length, get_or, drop, replicate, set, sym, refl, ap, ◌∙◌, subst, add-one, Option, Some, None, arith}
-use Rattle.std.specs.List.{slice_get}
-use Rattle.std.proofs.lemmas.Option.{get_or_from_slice_get, slice_get-get_or}
-use Rattle.sheet.specs.Sheets.{meant}
-use Rattle.sheet.specs.declared.view.Sheet.{Sheet as Lent}
-use Rattle.sheet.proofs.Known.{known, few, few_blocks}
+use Rattle.std.proofs.Common.{◌≡◌, ℕ, suc, ◌+◌, ◌<◌, ◌≤◌, eqb, ◌⊎◌, inl, inr, List, [], ◌∷◌, length, get_or, drop, replicate, set, sym, refl, ap, ◌∙◌, subst, add-one, arith}
 use Rattle.std.proofs.Math.Seq.{drop-cons}
 use Rattle.std.proofs.lemmas.List.{get_or-set_same, get_or-set_other, get_or-replicate, drop_all}
 use Rattle.std.proofs.lemmas.Bool.{eq-eqb, ne_eqb, cases_eq}
@@ -57,26 +52,3 @@ one_less rs p b next after h l e m n = record { told = told; linked = λ k f g. 
         go : (c ≡ b) ⊎ (c ≡ b → ⊥) → get_or (set next b (get_or after p 0)) c 0 ≡ use_from rs (p + 1) c
         go (inl i) = rw (i, get_or-set_same next b (get_or after p 0) 0 (omega arith)) (rw (← e) (h.linked p (omega arith) l))
         go (inr i) = get_or-set_other next b c (get_or after p 0) 0 i ∙ (h.told c k ∙ use_later rs p c l (λ f. i (sym f ∙ e)))
-
--- the request at a position of a sheet
-pub record Asked (s : Lent) (p b : ℕ) : Type 0 where
-  pub is : get_or (meant s).requests p 0 ≡ b
-  pub known : b < 1024
-  pub within : p < 4096
-
-pub asked : (s : Lent) (p b : ℕ) → p < length (meant s).requests → slice_get (meant s).requests p ≡ Some b → Asked s p b
-asked s p b l e =
-    let i = get_or_from_slice_get (meant s).requests p b 0 e in
-    record { is = i; known = omega (arith, known s p l, few_blocks s, i); within = omega (arith, few s) }
-
-pub noted : (s : Lent) (p b : ℕ) (next after : List ℕ) → Indexes (meant s).requests (p + 1) next after → p < length (meant s).requests → slice_get (meant s).requests p ≡ Some b → length next ≡ 1024 → length after ≡ 4096 →
-    Indexes (meant s).requests p (set next b p) (set after p (get_or next b 0))
-noted s p b next after h l e m n = let a = asked s p b l e in one_more (meant s).requests p b next after h l a.is a.known m (omega (arith, a.within))
-
-pub passed : (s : Lent) (p b : ℕ) (next after : List ℕ) → Indexes (meant s).requests p next after → p < length (meant s).requests → slice_get (meant s).requests p ≡ Some b → length next ≡ 1024 →
-    Indexes (meant s).requests (p + 1) (set next b (get_or after p 0)) after
-passed s p b next after h l e m = let a = asked s p b l e in one_less (meant s).requests p b next after h l a.is a.known m
-
--- within the list some block is requested
-pub no_gap : (s : Lent) (p : ℕ) → p < length (meant s).requests → slice_get (meant s).requests p ≡ None → ⊥
-no_gap s p l e = let k = slice_get-get_or (meant s).requests p 0 l in cc

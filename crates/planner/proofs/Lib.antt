@@ -1,5 +1,6 @@
 pub mod Best
 pub mod Indexing
 pub mod Lowest
+pub mod Marking
 pub mod Shown
 pub mod Soonest

@@ -1,4 +1,5 @@
 pub mod Boards
+pub mod Openings
 pub mod Tests
 pub mod Uses
 pub mod Views

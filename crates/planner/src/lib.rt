@@ -3,9 +3,12 @@
 #![tactic(auto)]
 
 mod aggressive;
+mod asking;
 mod board;
+mod chosen;
 mod demand;
 mod finding;
+mod opening;
 mod rule;
 mod seeing;
 mod uses;
@@ -13,5 +16,6 @@ mod view;
 
 pub use aggressive::Aggressive;
 pub use demand::Demand;
+pub use opening::Opening;
 pub use rule::Rule;
 pub use view::View;

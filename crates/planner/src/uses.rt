@@ -2,6 +2,7 @@ ghost use Rattle.std.specs.Prelude.{◌≡◌, ◌+◌, ◌<◌, ◌≤◌, leng
 ghost use Rattle.sheet.specs.Sheets.{meant};
 ghost use Rattle.planner.specs.Uses.{Indexes};
 
+use crate::asking::block_at;
 use sheet::{Sheet, MOST_BLOCKS, MOST_REQUESTS};
 
 // The index of next uses: for each block its next use from the position reached on, and for each position the next one of the same block. The number of requests stands for never.
@@ -66,9 +67,7 @@ impl NextUses {
         requires within { position < length (meant sheet).requests }
         ensures { Indexes (meant sheet.entry).requests position self.new.next self.new.after }
     {
-        if let Some(block) = sheet.request(position) {
-            self.add(position, block);
-        }
+        self.add(position, block_at(sheet, position));
     }
 
     // Before the first step. Requests are noted from the last to the first, so that each finds the next one of its block.
@@ -88,8 +87,6 @@ impl NextUses {
         requires within { position < length (meant sheet).requests }
         ensures { Indexes (meant sheet.entry).requests (position + 1) self.new.next self.new.after }
     {
-        if let Some(block) = sheet.request(position) {
-            self.remove(position, block);
-        }
+        self.remove(position, block_at(sheet, position));
     }
 }

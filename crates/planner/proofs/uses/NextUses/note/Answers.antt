@@ -1,14 +1,13 @@
-use Rattle.std.proofs.Common.{◌∙◌, sym, arith}
-use Rattle.planner.proofs.Indexing.{asked, noted, no_gap}
+use Rattle.std.proofs.Common.{sym, arith}
+use Rattle.sheet.specs.Sheets.{meant}
+use Rattle.sheet.proofs.Known.{few}
+use Rattle.planner.proofs.Indexing.{one_more}
 use Rattle.planner.proofs.uses.NextUses.note.Goals as goal
 
 pub add-requires : goal.add-requires
-add-requires c = let a = asked c.args.sheet c.args.position c.in-Some.block c.requires.within (sym c.request.ensures ∙ c.in-Some.is) in record { known = a.known; within = a.within }
+add-requires c = record { known = c.block_at.ensures.few; within = omega (arith, few c.args.sheet) }
 
-pub returns-in-Some : goal.returns-in-Some
-returns-in-Some c =
+pub returns : goal.returns
+returns c =
     rw (c.add.ensures.next, c.add.ensures.after)
-    (noted c.args.sheet c.args.position c.in-Some.block c.args.self.now.next c.args.self.now.after c.requires.index c.requires.within (sym c.request.ensures ∙ c.in-Some.is) (omega arith) (omega arith))
-
-pub returns-in_default : goal.returns-in_default
-returns-in_default c = absurd (no_gap c.args.sheet c.args.position c.requires.within (sym c.request.ensures ∙ c.in_default.is))
+    (one_more (meant c.args.sheet).requests c.args.position c.block_at.result c.args.self.now.next c.args.self.now.after c.requires.index c.requires.within (sym c.block_at.ensures.is) c.block_at.ensures.few (omega arith) (omega (arith, few c.args.sheet)))

@@ -1,0 +1,45 @@
+ghost use Rattle.std.specs.Prelude.{◌≤◌};
+
+// A rack has at most this many frames.
+const MOST_FRAMES: usize = 64;
+
+// The opening content of a plan: blocks, rising, at most as many as a rack can have frames.
+#[derive(Clone, Copy)]
+pub struct Opening {
+    pub(crate) slots: [u16; MOST_FRAMES],
+    pub(crate) len: usize,
+    ghost few: { len ≤ 64 },
+}
+
+impl Opening {
+    ghost use Rattle.std.specs.Prelude.{◌≡◌, ◌<◌, [], ◌∷◌, ◌++◌, length};
+    ghost use Rattle.model.specs.Pass.{usual_opening};
+    ghost use Rattle.sheet.specs.Sheets.{meant};
+    ghost use Rattle.planner.specs.Openings.{opened};
+
+    // No block yet.
+    fn new() -> Self
+        ensures { opened result ≡ [] }
+    {
+        Opening {
+            slots: [0; MOST_FRAMES],
+            len: 0,
+        }
+    }
+
+    // One block more.
+    fn push(&mut self, block: u16)
+        requires { length (opened self.old) < 64 }
+        ensures { opened self.new ≡ opened self.old ++ block ∷ [] }
+    {
+        self.slots[self.len] = block;
+        self.len += 1;
+    }
+
+    // The blocks, rising.
+    pub fn blocks(&self) -> &[u16]
+        ensures { result.now ≡ opened self.now }
+    {
+        &self.slots[0..self.len]
+    }
+}

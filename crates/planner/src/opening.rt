@@ -1,5 +1,8 @@
 ghost use Rattle.std.specs.Prelude.{◌≤◌};
 
+use crate::chosen::Chosen;
+use sheet::Sheet;
+
 // A rack has at most this many frames.
 const MOST_FRAMES: usize = 64;
 
@@ -41,5 +44,20 @@ impl Opening {
         ensures { result.now ≡ opened self.now }
     {
         &self.slots[0..self.len]
+    }
+
+    // The usual opening of a sheet.
+    pub fn usual(sheet: Sheet) -> Self
+        ensures { opened result ≡ usual_opening (length (meant sheet.entry).rack.homes) (meant sheet.entry).rack.frames (meant sheet.entry).requests }
+    {
+        let chosen = Chosen::usual(sheet);
+        let mut opening = Opening::new();
+        for block in 0..sheet.rack().blocks() as u16 {
+            if !chosen.has(block) {
+                continue;
+            }
+            opening.push(block);
+        }
+        opening
     }
 }

@@ -1,3 +1,4 @@
+pub mod Begun
 pub mod Best
 pub mod Indexing
 pub mod Lowest

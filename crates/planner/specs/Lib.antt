@@ -1,4 +1,6 @@
+pub mod Asked
 pub mod Boards
+pub mod Courses
 pub mod Openings
 pub mod Tests
 pub mod Uses

@@ -1,3 +1,8 @@
+ghost use Rattle.std.specs.Prelude.{◌≡◌, ◌+◌, ◌≤◌, slice_set};
+ghost use Rattle.model.specs.PlanBytes.{plan_limit};
+ghost use Rattle.model.specs.declared.Mark.TheVariants.{Away, Here};
+
+use model::Exchange;
 use plan::Places;
 
 // How far a pass has come, and where blocks and disks are.
@@ -6,4 +11,27 @@ pub(crate) struct Board {
     pub(crate) position: usize,
     pub(crate) boundary: u32,
     pub(crate) places: Places,
+}
+
+impl Board {
+    // An exchange starts: its block out is gone from this step on, its block in is here once it lands, and until then its disk is busy.
+    pub(crate) fn start(&mut self, brings: u16, sends: u16, disk: u8, fetch: u8) -> Exchange
+        requires { self.old.boundary ≤ plan_limit }
+        ensures exchange { result ≡ record { brings = brings; sends = sends; start = self.old.boundary } }
+        ensures position { self.new.position ≡ self.old.position }
+        ensures boundary { self.new.boundary ≡ self.old.boundary }
+        ensures marks { self.new.places.marks ≡ slice_set (slice_set self.old.places.marks sends (Away (self.old.boundary + 1))) brings (Here (self.old.boundary + fetch)) }
+        ensures idle { self.new.places.idle ≡ slice_set self.old.places.idle disk (self.old.boundary + fetch) }
+    {
+        let start = self.boundary;
+        let landing = start + u32::from(fetch);
+        self.places.leave(sends, start + 1);
+        self.places.arrive(brings, landing);
+        self.places.occupy(disk, landing);
+        Exchange {
+            brings,
+            sends,
+            start,
+        }
+    }
 }

@@ -6,11 +6,13 @@ mod aggressive;
 mod asking;
 mod board;
 mod chosen;
+mod course;
 mod demand;
 mod finding;
 mod opening;
 mod rule;
 mod seeing;
+mod starting;
 mod uses;
 mod view;
 

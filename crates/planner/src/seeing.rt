@@ -96,6 +96,14 @@ impl<'a> View<'a> {
         }
     }
 
+    // How many requests there are: the next use of a block that is not used again.
+    #[tactic(auto, using(crate::proofs::Shown::length_is))]
+    pub fn never(&self) -> usize
+        ensures { result ≡ length (shows self.now).requests }
+    {
+        self.sheet.len()
+    }
+
     // How many disks are told of: as many as a rack can have. Those that the rack lacks carry nothing.
     #[tactic(auto, using(crate::proofs::Shown::disks_are))]
     pub fn disks(&self) -> u8

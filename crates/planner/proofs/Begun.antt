@@ -1,19 +1,19 @@
 -- What the pass makes of a rule's answers at a state, told by the board that stands there. Assumes nothing.
-use Rattle.std.proofs.Common.{◌≡◌, ℕ, ◌+◌, ◌<◌, Bool, true, false, cond, List, [], ◌∷◌, ◌++◌, length, get_or, set, sym, refl, ap, ◌∙◌, subst, arith}
+use Rattle.std.proofs.Common.{◌≡◌, ℕ, ◌+◌, ◌<◌, Bool, true, false, cond, List, [], ◌∷◌, length, set, sym, refl, ap, ◌∙◌, subst}
 use Rattle.std.proofs.lemmas.List.{append-nil}
 use Rattle.model.specs.declared.Exchange.{Exchange}
 use Rattle.model.specs.declared.Mark.TheVariants.{Away, Here}
-use Rattle.model.specs.Pass.{seen, starts, screened, takes_need, takes_ahead, asks_need, asks_ahead}
+use Rattle.model.specs.Pass.{screened, takes_need, takes_ahead, asks_need, asks_ahead}
 use Rattle.model.specs.Rules.{Rule, Wants}
 use Rattle.model.specs.Sheet.{Sheet}
-use Rattle.model.specs.Timetable.{Side, occupies}
+use Rattle.model.specs.Timetable.{Side}
 use Rattle.model.specs.Verdict.{State, after}
 use Rattle.model.specs.View.{Option, None, Some, View, disk_of, is_free, missing, wanted_block}
 use Rattle.model.proofs.Seeing.{disk_late}
 use Rattle.plan.specs.Headings.{side_of}
 use Rattle.sheet.specs.Sheets.{meant}
 use Rattle.sheet.proofs.Known.{known}
-use Rattle.planner.specs.Asked.{starts_for, need_for, ahead_for, listed}
+use Rattle.planner.specs.Asked.{starts_for, need_for, ahead_for}
 use Rattle.planner.specs.Boards.{state_of, Stands, Comes}
 use Rattle.planner.specs.Courses.{Starts}
 use Rattle.planner.specs.Views.{seen_of}

@@ -1,6 +1,6 @@
 -- One block more, when blocks are gone through for the best. Assumes nothing.
-use Rattle.std.proofs.Common.{◌≡◌, ℕ, zero, suc, ◌+◌, ◌<◌, ◌≤◌, Bool, true, false, ◌&&◌, Option, Some, None, sym, refl, ap, ◌∙◌, subst, add-one, arith}
-use Rattle.model.specs.View.{View, may_go_out, next_use, better, better_if, greatest, latest_of}
+use Rattle.std.proofs.Common.{◌≡◌, ℕ, ◌+◌, Bool, true, false, ◌&&◌, Option, refl, ap, ◌∙◌, add-one}
+use Rattle.model.specs.View.{View, may_go_out, next_use, better, better_if, greatest}
 
 pub greatest_more : (p : ℕ → Bool) (key : ℕ → ℕ) (n : ℕ) → greatest p key (n + 1) ≡ better_if (p n) key n (greatest p key n)
 unfolding greatest

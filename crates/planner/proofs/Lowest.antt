@@ -1,5 +1,5 @@
 -- One disk more, when disks are gone through for the lowest free one that has a resident block. Assumes nothing.
-use Rattle.std.proofs.Common.{◌≡◌, ℕ, zero, suc, ◌+◌, ◌<◌, ◌≤◌, Bool, true, false, cond, Option, Some, None, is_some, sym, refl, ap, ◌∙◌, add-one, arith}
+use Rattle.std.proofs.Common.{◌≡◌, ℕ, ◌+◌, Bool, true, false, cond, Option, Some, None, is_some, sym, refl, ap, ◌∙◌, add-one}
 use Rattle.model.specs.View.{View, is_free, latest_on}
 use Rattle.model.specs.Rules.{or_else, lowest_free}
 

@@ -4,7 +4,7 @@ use Rattle.std.proofs.lemmas.List.{append-nil, length-append, length_push}
 use Rattle.std.proofs.lemmas.Bool.{cases_eq}
 use Rattle.model.specs.Mirror.{picked}
 use Rattle.model.specs.Timetable.{home}
-use Rattle.model.specs.Pass.{each, different, usual_opening}
+use Rattle.model.specs.Pass.{each, usual_opening}
 use Rattle.model.proofs.Usual.{usual_length}
 use Rattle.sheet.specs.Sheets.{meant}
 use Rattle.sheet.specs.declared.view.Sheet.{Sheet as Lent}

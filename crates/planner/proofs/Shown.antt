@@ -1,23 +1,22 @@
 -- What a view shows of single blocks and disks, told from where they are. Assumes nothing.
-use Rattle.std.proofs.Common.{◌≡◌, ℕ, suc, ◌+◌, ◌-◌, ◌<◌, ◌≤◌, Bool, true, false, not, ◌&&◌, eqb, leb, ltb, ◌⊎◌, inl, inr, List, map, length, get_or, drop, Option, Some, None, sym, refl, ap, ◌∙◌, subst, arith}
+use Rattle.std.proofs.Common.{◌≡◌, ℕ, ◌<◌, ◌≤◌, true, false, eqb, leb, ◌⊎◌, inl, inr, length, get_or, Option, refl, ◌∙◌, arith}
 use Rattle.std.specs.List.{slice_get}
 use Rattle.std.specs.Option.{unwrap_or}
-use Rattle.std.proofs.lemmas.List.{get_or_past, length-map, get_or-map}
-use Rattle.std.proofs.lemmas.Option.{unwrap_or-slice_get, get_or_from_slice_get, slice_get-get_or, slice_get_past}
-use Rattle.std.proofs.lemmas.Bool.{lt-ltb, le-ltb, eqb-true, cases_lt}
+use Rattle.std.proofs.lemmas.List.{get_or_past, length-map}
+use Rattle.std.proofs.lemmas.Option.{unwrap_or-slice_get, slice_get-get_or, slice_get_past}
+use Rattle.std.proofs.lemmas.Bool.{lt-ltb, le-ltb, cases_lt}
 use Rattle.model.specs.declared.Mark.{Mark}
-use Rattle.model.specs.declared.Mark.TheVariants.{Away, Here}
+use Rattle.model.specs.declared.Mark.TheVariants.{Away}
 use Rattle.model.specs.Verdict.{is_away_at, is_here_at}
-use Rattle.model.specs.View.{Place, missing, may_go_out, is_free, is_absent, next_use, requested_at, wanted_block}
+use Rattle.model.specs.View.{Place, missing, may_go_out, next_use, requested_at, wanted_block}
 use Rattle.model.specs.Pass.{each, place_by, named_by}
-use Rattle.model.proofs.Seeing.{each_length, sees_missing, sees_out, Requested, use_requested}
+use Rattle.model.proofs.Seeing.{each_length, sees_missing, sees_out, use_requested}
 use Rattle.model.proofs.Answering.{first_is}
 use Rattle.sheet.specs.Sheets.{meant}
 use Rattle.sheet.proofs.Known.{known, few_blocks}
 use Rattle.plan.specs.Headings.{side_of}
 use Rattle.planner.specs.declared.view.View.{View as Viewed}
 use Rattle.planner.specs.Boards.{state_of}
-use Rattle.planner.specs.Uses.{use_from}
 use Rattle.planner.specs.Views.{shows}
 
 module _ (v : Viewed) where

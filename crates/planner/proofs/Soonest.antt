@@ -1,9 +1,8 @@
 -- The least next use of the blocks that pass a test is the first position whose block passes it. Assumes nothing.
-use Rattle.std.proofs.Common.{◌≡◌, ℕ, zero, suc, ◌+◌, ◌<◌, ◌≤◌, Bool, true, false, eqb, ◌⊎◌, inl, inr, length, get_or, min, sym, refl, ap, ◌∙◌, subst, arith}
+use Rattle.std.proofs.Common.{◌≡◌, ℕ, ◌+◌, ◌<◌, ◌≤◌, Bool, true, false, eqb, ◌⊎◌, inl, inr, length, get_or, min, sym, refl, ap, ◌∙◌, subst, arith}
 use Rattle.std.proofs.lemmas.Bool.{false_from_ne_true, cases_eq, cases_lt, eqb-true, both_ways, eq-eqb}
 use Rattle.model.specs.View.{View, blocks, first_from, next_use}
 use Rattle.model.specs.ViewLaws.{FirstIs}
-use Rattle.model.proofs.Seeing.{Requested, use_requested}
 use Rattle.model.proofs.Answering.{first_is, firsts_exact}
 
 -- so far: of the blocks below a number that pass, the least next use; the number of requests where none is used again

@@ -1,5 +1,5 @@
 -- How far a pass has come, as a state of the model: what no rule sees is left blank. Assumes nothing.
-use Rattle.std.specs.Prelude.{◌≡◌, ℕ, List, [], ◌++◌}
+use Rattle.std.specs.Prelude.{◌≡◌, List, [], ◌++◌}
 use Rattle.model.specs.declared.Exchange.{Exchange}
 use Rattle.model.specs.declared.Phase.TheVariants.{Standing}
 use Rattle.model.specs.Verdict.{State}

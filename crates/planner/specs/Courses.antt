@@ -1,7 +1,6 @@
 -- What starts at a boundary leave of a course. Assumes nothing.
-use Rattle.std.specs.Prelude.{◌≡◌, ℕ, List}
+use Rattle.std.specs.Prelude.{◌≡◌, List}
 use Rattle.model.specs.declared.Exchange.{Exchange}
-use Rattle.model.specs.Rules.{Rule}
 use Rattle.model.specs.Sheet.{Sheet}
 use Rattle.model.specs.Timetable.{Side}
 use Rattle.model.specs.Verdict.{State}

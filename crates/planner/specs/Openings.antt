@@ -2,7 +2,7 @@
 use Rattle.std.specs.Prelude.{◌≡◌, ℕ, ◌<◌, Bool, false, List, [], length, take, ◌==◌, slice_index_or}
 use Rattle.model.specs.Sheet.{Sheet}
 use Rattle.model.specs.Timetable.{home}
-use Rattle.model.specs.Pass.{each, different}
+use Rattle.model.specs.Pass.{different}
 use Rattle.planner.specs.declared.opening.Opening.{Opening}
 
 abbrev pub opened : Opening → List ℕ

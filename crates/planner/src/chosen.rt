@@ -6,7 +6,7 @@ ghost use Rattle.sheet.specs.Sheets.{meant};
 ghost use Rattle.planner.specs.Openings.{Marks, first_of};
 
 use crate::asking::block_at;
-use sheet::{Sheet, MOST_BLOCKS};
+use sheet::{MOST_BLOCKS, Sheet};
 
 // A mark for each block, and how many are marked.
 #[derive(Clone, Copy)]

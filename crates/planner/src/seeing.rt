@@ -25,7 +25,7 @@ impl<'a> View<'a> {
         ensures frames { (meant result).rack.frames ≡ (shows self.now).frames }
         ensures requests { (meant result).requests ≡ (shows self.now).requests }
     {
-        self.sheet
+        self.sheet // the turned one, where that is planned for
     }
 
     // How many requests are served.
@@ -101,7 +101,7 @@ impl<'a> View<'a> {
     pub fn never(&self) -> usize
         ensures { result ≡ length (shows self.now).requests }
     {
-        self.sheet.len()
+        self.sheet.len() // later than all positions
     }
 
     // How many disks are told of: as many as a rack can have. Those that the rack lacks carry nothing.

@@ -3,7 +3,7 @@ ghost use Rattle.sheet.specs.Sheets.{meant};
 ghost use Rattle.planner.specs.Uses.{Indexes};
 
 use crate::asking::block_at;
-use sheet::{Sheet, MOST_BLOCKS, MOST_REQUESTS};
+use sheet::{MOST_BLOCKS, MOST_REQUESTS, Sheet};
 
 // The index of next uses: for each block its next use from the position reached on, and for each position the next one of the same block. The number of requests stands for never.
 // No option: never is later than every position, so that the numbers compare as the uses do. The positions of a block are

@@ -1,6 +1,6 @@
-use Rattle.std.proofs.Common.{◌≡◌, ℕ, ◌+◌, ◌-◌, eqb, get_or, length, true, sym, refl, ap, ◌∙◌, arith}
+use Rattle.std.proofs.Common.{◌≡◌, ℕ, ◌+◌, ◌-◌, eqb, get_or, length, sym, ap, ◌∙◌, arith}
 use Rattle.std.proofs.lemmas.Bool.{ne_eqb, eq-eqb}
-use Rattle.model.specs.View.{better, blocks, greatest, latest_on, next_use}
+use Rattle.model.specs.View.{better, blocks, greatest, next_use}
 use Rattle.planner.specs.Views.{shows}
 use Rattle.planner.proofs.Best.{latest_below, stays_in, passed_over, compared}
 use Rattle.planner.proofs.Lowest.{lowest_end, lowest_busy, lowest_empty, lowest_met, none_from}
@@ -26,7 +26,7 @@ loop-block-preserved-then-not-may_go_out c =
     let n = c.loop-block.block in
     let on = λ (b : ℕ). eqb (get_or v.homes b 0) d in
     c.loop-block.invariant ∙ elim c.then-not-may_go_out.branch [
-      then-not-may_go_out-via-then-not-may_go_out w ↦ sym (stays_in v on n (sym c.may_go_out.ensures ∙ w.if-not-may_go_out.true))
+      | then-not-may_go_out-via-then-not-may_go_out w ↦ sym (stays_in v on n (sym c.may_go_out.ensures ∙ w.if-not-may_go_out.true))
       | then-not-may_go_out-via-else-not-may_go_out+then-home-disk w ↦ sym (passed_over v on n (sym c.may_go_out.ensures ∙ w.if-not-may_go_out.false) (ne_eqb (get_or v.homes n 0) d (λ i. w.if-home-disk.true (w.home.ensures ∙ i))))
     ]
 

@@ -1,4 +1,4 @@
-use Rattle.std.proofs.Common.{◌≡◌, ℕ, ◌+◌, ◌<◌, length, None, eqb, get_or}
+use Rattle.std.proofs.Common.{◌≡◌, ℕ, ◌+◌, length, None, eqb, get_or}
 use Rattle.model.specs.Rules.{lowest_free}
 use Rattle.planner.specs.Views.{shows}
 use Rattle.planner.proofs.Best.{latest_below}

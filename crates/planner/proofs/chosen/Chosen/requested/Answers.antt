@@ -1,7 +1,7 @@
 use Rattle.std.proofs.Common.{◌≡◌, take, ap, ◌∙◌, arith}
 use Rattle.model.specs.Sheet.{Rack}
 use Rattle.sheet.specs.Sheets.{meant}
-use Rattle.planner.specs.Openings.{Marks, first_of}
+use Rattle.planner.specs.Openings.{first_of}
 use Rattle.planner.proofs.Marking.{first_nothing, marks_request}
 use Rattle.planner.proofs.chosen.Chosen.requested.Goals as goal
 

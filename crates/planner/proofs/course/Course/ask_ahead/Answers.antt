@@ -1,5 +1,4 @@
-use Rattle.std.proofs.Common.{◌≡◌, true, false, sym, ap, ◌∙◌}
-use Rattle.model.specs.View.{is_free}
+use Rattle.std.proofs.Common.{sym, ◌∙◌}
 use Rattle.planner.specs.Views.{shows}
 use Rattle.planner.proofs.Begun.{disk_busy, ahead_unmet, ahead_refused, ahead_taken}
 use Rattle.planner.proofs.course.Course.ask_ahead.Goals as goal

@@ -1,4 +1,4 @@
-use Rattle.std.proofs.Common.{◌≡◌, true, false, sym, ap, ◌∙◌}
+use Rattle.std.proofs.Common.{◌≡◌, true, sym, ap, ◌∙◌}
 use Rattle.model.specs.View.{missing, wanted_block}
 use Rattle.planner.specs.Views.{shows}
 use Rattle.planner.proofs.Begun.{wants, no_need, need_unmet, need_met}

@@ -24,9 +24,9 @@ returns c =
       position = c.start.ensures.position;
       boundary = c.start.ensures.boundary;
       comes = λ s h. rw c.start.ensures.exchange (begins side sheet old c.start.new.self p q (record {
-          position = c.start.ensures.position;
-          boundary = c.start.ensures.boundary;
-          marks = subst (λ (n : ℕ). c.start.new.self.places.marks ≡ set (set old.places.marks q (Away (old.boundary + 1))) p (Here (old.boundary + n))) fetch c.start.ensures.marks;
-          idle = c.start.ensures.idle ∙ (ap (λ (d : ℕ). set old.places.idle d (old.boundary + c.fetch-fetch.result)) disk ∙ ap (λ (n : ℕ). set old.places.idle (disk_of (seen_of side sheet (state_of old)) p q) (old.boundary + n)) fetch);
-        }) s h);
+        position = c.start.ensures.position;
+        boundary = c.start.ensures.boundary;
+        marks = subst (λ (n : ℕ). c.start.new.self.places.marks ≡ set (set old.places.marks q (Away (old.boundary + 1))) p (Here (old.boundary + n))) fetch c.start.ensures.marks;
+        idle = c.start.ensures.idle ∙ (ap (λ (d : ℕ). set old.places.idle d (old.boundary + c.fetch-fetch.result)) disk ∙ ap (λ (n : ℕ). set old.places.idle (disk_of (seen_of side sheet (state_of old)) p q) (old.boundary + n)) fetch);
+      }) s h);
     }

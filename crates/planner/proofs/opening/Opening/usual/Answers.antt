@@ -1,8 +1,7 @@
-use Rattle.std.proofs.Common.{◌≡◌, ◌<◌, ◌++◌, [], ◌∷◌, Bool, length, ap, sym, ◌∙◌, arith, ℕ, List, subst}
+use Rattle.std.proofs.Common.{◌≡◌, ◌<◌, ◌++◌, [], ◌∷◌, length, ap, sym, ◌∙◌, arith, ℕ, List, subst}
 use Rattle.model.specs.Mirror.{picked}
 use Rattle.model.specs.Sheet.{Rack}
 use Rattle.sheet.specs.Sheets.{meant}
-use Rattle.planner.specs.Openings.{opened}
 use Rattle.planner.proofs.Rising.{is_first, is_marked, picked_in, picked_not, usual_is, usual_room}
 use Rattle.planner.proofs.opening.Opening.usual.Goals as goal
 

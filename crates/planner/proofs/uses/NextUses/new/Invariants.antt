@@ -1,4 +1,3 @@
-use Rattle.std.proofs.Common.{◌≡◌, ◌≤◌, length}
 use Rattle.sheet.specs.Sheets.{meant}
 use Rattle.planner.specs.Uses.{Indexes}
 use Rattle.planner.proofs.uses.NextUses.new.Given as goal

@@ -1,21 +1,23 @@
 -- What the pass makes of a rule's answers at a state, told by the board that stands there. Assumes nothing.
-use Rattle.std.proofs.Common.{◌≡◌, ℕ, ◌+◌, ◌<◌, Bool, true, false, cond, List, [], ◌∷◌, length, set, sym, refl, ap, ◌∙◌, subst}
+use Rattle.std.proofs.Common.{◌≡◌, ℕ, zero, suc, ◌+◌, ◌<◌, Bool, true, false, cond, List, [], ◌∷◌, ◌++◌, length, set, sym, refl, ap, ◌∙◌, subst, add-one, arith}
 use Rattle.std.proofs.lemmas.List.{append-nil}
 use Rattle.model.specs.declared.Exchange.{Exchange}
 use Rattle.model.specs.declared.Mark.TheVariants.{Away, Here}
-use Rattle.model.specs.Pass.{screened, takes_need, takes_ahead, asks_need, asks_ahead}
+use Rattle.model.specs.Pass.{screened, takes_need, takes_ahead, asks_need, asks_ahead, asks_disks, asks_all}
 use Rattle.model.specs.Rules.{Rule, Wants}
 use Rattle.model.specs.Sheet.{Sheet}
-use Rattle.model.specs.Timetable.{Side}
+use Rattle.model.specs.Timetable.{Side, Act}
 use Rattle.model.specs.Verdict.{State, after}
 use Rattle.model.specs.View.{Option, None, Some, View, disk_of, is_free, missing, wanted_block}
 use Rattle.model.proofs.Seeing.{disk_late}
 use Rattle.plan.specs.Headings.{side_of}
 use Rattle.sheet.specs.Sheets.{meant}
+use Rattle.sheet.specs.declared.view.Sheet.{Sheet as Lent}
+use Rattle.plan.specs.declared.side.Heading.{Heading}
 use Rattle.sheet.proofs.Known.{known}
-use Rattle.planner.specs.Asked.{starts_for, need_for, ahead_for}
+use Rattle.planner.specs.Asked.{starts_for, need_for, ahead_for, disks_for, all_for, AllAt}
 use Rattle.planner.specs.Boards.{state_of, Stands, Comes}
-use Rattle.planner.specs.Courses.{Starts}
+use Rattle.planner.specs.Courses.{Starts, Asks}
 use Rattle.planner.specs.Views.{seen_of}
 use Rattle.planner.specs.declared.board.Board.{Board}
 use Rattle.planner.specs.declared.course.Course.{Course}
@@ -100,6 +102,7 @@ starts_none c step f = record {
   sheet = refl;
   position = refl;
   boundary = refl;
+  now = tt;
   comes = λ s h. record { stands = subst (λ (t : State). Stands c.board t) (sym (f s h)) h; starts = ap (λ (t : State). t.records) (f s h) ∙ sym (append-nil s.records) };
 }
 
@@ -110,6 +113,7 @@ starts_as c d step other xs h f = record {
   sheet = h.sheet;
   position = h.position;
   boundary = h.boundary;
+  now = h.now;
   comes = λ s k. subst (λ (t : State). Comes d.board s t xs) (sym (f s k)) (h.comes s k);
 }
 
@@ -157,3 +161,73 @@ module _ (o : Course) (rule : Rule) (v : View) (e : v ≡ seen_of (side_of o.hea
 
   pub ahead_taken : (d : ℕ) (c : Course) (p q : ℕ) (xs : List Exchange) → is_free v d ≡ true → rule.ahead v d ≡ Some (p, q) → screen d p q ≡ true → Starts o c (begun p q) xs → Starts o c (aheads d) xs
   ahead_taken d c p q xs f n g h = starts_as o c (aheads d) (begun p q) xs h (λ s k. ahead_some (side_of o.heading) (meant o.sheet) rule s v (same s k) d p q f n (sym (screen_is d p q) ∙ g))
+
+-- What starts is taken down.
+pub asked : (c d : Course) (step : Side → Sheet → State → State) (xs : List Exchange) (held holds : List Exchange → List Act → Type 0) → Starts c d step xs →
+    ((ys : List Exchange) (acts : List Act) → held ys acts → AllAt (length acts) xs → holds (ys ++ xs) acts) → Asks c d step held holds
+asked c d step xs held holds h f = record {
+  heading = h.heading;
+  sheet = h.sheet;
+  position = h.position;
+  boundary = h.boundary;
+  stands = λ s k. (h.comes s k).stands;
+  taken = λ s acts k e a.
+      subst (λ (ys : List Exchange). holds ys acts) (sym (h.comes s k).starts) (f s.records acts a (subst (λ (t : ℕ). AllAt t xs) (sym e) h.now));
+}
+
+-- one step of a boundary after another
+pub asked_on : (c d e : Course) (step next : Side → Sheet → State → State) (held some holds : List Exchange → List Act → Type 0) → Asks c d step held some → Asks d e next some holds → Asks c e (λ side sheet s. next side sheet (step side sheet s)) held holds
+asked_on c d e step next held some holds h k = record {
+  heading = k.heading ∙ h.heading;
+  sheet = k.sheet ∙ h.sheet;
+  position = k.position ∙ h.position;
+  boundary = k.boundary ∙ h.boundary;
+  stands = λ s m. stands s m;
+  taken = λ s acts m f a. taken s acts m f a;
+}
+  where
+    stands : (s : State) → Stands c.board s → Stands e.board (next (side_of c.heading) (meant c.sheet) (step (side_of c.heading) (meant c.sheet) s))
+    stands s m =
+        subst (λ (x : Heading). Stands e.board (next (side_of x) (meant c.sheet) (step (side_of c.heading) (meant c.sheet) s))) h.heading
+        (subst (λ (x : Lent). Stands e.board (next (side_of d.heading) (meant x) (step (side_of c.heading) (meant c.sheet) s))) h.sheet (k.stands (step (side_of c.heading) (meant c.sheet) s) (h.stands s m)))
+
+    taken : (s : State) (acts : List Act) → Stands c.board s → length acts ≡ c.board.boundary → held s.records acts → holds (next (side_of c.heading) (meant c.sheet) (step (side_of c.heading) (meant c.sheet) s)).records acts
+    taken s acts m f a =
+        subst (λ (x : Heading). holds (next (side_of x) (meant c.sheet) (step (side_of c.heading) (meant c.sheet) s)).records acts) h.heading
+        (subst (λ (x : Lent). holds (next (side_of d.heading) (meant x) (step (side_of c.heading) (meant c.sheet) s)).records acts) h.sheet
+        (k.taken (step (side_of c.heading) (meant c.sheet) s) acts (h.stands s m) (f ∙ sym h.boundary) (h.taken s acts m f a)))
+
+-- need, and then ahead for each disk below one
+module _ (rule : Rule) where
+  unfoldable pub upto : ℕ → Side → Sheet → State → State
+  upto zero side sheet s = need_for side sheet rule s
+  upto (suc d) side sheet s = ahead_for side sheet rule d (upto d side sheet s)
+
+  pub upto_none : (side : Side) (sheet : Sheet) (s : State) → upto 0 side sheet s ≡ need_for side sheet rule s
+  unfolding upto
+  upto_none side sheet s = refl
+
+  pub upto_more : (d : ℕ) (side : Side) (sheet : Sheet) (s : State) → upto (d + 1) side sheet s ≡ ahead_for side sheet rule d (upto d side sheet s)
+  unfolding upto
+  upto_more d side sheet s = rw (add-one d) refl
+
+  upto_rest : (side : Side) (sheet : Sheet) (s : State) (n d : ℕ) → disks_for side sheet rule n d (upto d side sheet s) ≡ upto (d + n) side sheet s
+  unfolding asks_disks
+  upto_rest side sheet s zero d = let e : d ≡ d + 0 = omega arith in ap (λ (x : ℕ). upto x side sheet s) e
+  upto_rest side sheet s (suc n) d =
+      let e : d + 1 + n ≡ d + suc n = omega arith in
+      ap (λ (t : State). disks_for side sheet rule n (d + 1) t) (sym (upto_more d side sheet s)) ∙ (upto_rest side sheet s n (d + 1) ∙ ap (λ (x : ℕ). upto x side sheet s) e)
+
+  pub upto_all : (side : Side) (sheet : Sheet) (s : State) → upto 8 side sheet s ≡ all_for side sheet rule s
+  unfolding asks_all
+  upto_all side sheet s = sym (upto_rest side sheet s 8 0) ∙ ap (λ (t : State). disks_for side sheet rule 8 0 t) (upto_none side sheet s)
+
+pub asked_as : (c d : Course) (step other : Side → Sheet → State → State) (held holds : List Exchange → List Act → Type 0) → Asks c d step held holds → ((side : Side) (sheet : Sheet) (s : State) → step side sheet s ≡ other side sheet s) → Asks c d other held holds
+asked_as c d step other held holds h f = record {
+  heading = h.heading;
+  sheet = h.sheet;
+  position = h.position;
+  boundary = h.boundary;
+  stands = λ s k. subst (λ (t : State). Stands d.board t) (f (side_of c.heading) (meant c.sheet) s) (h.stands s k);
+  taken = λ s acts k e a. subst (λ (t : State). holds t.records acts) (f (side_of c.heading) (meant c.sheet) s) (h.taken s acts k e a);
+}

@@ -6,3 +6,4 @@ pub mod Marking
 pub mod Rising
 pub mod Shown
 pub mod Soonest
+pub mod Turned

@@ -1,10 +1,10 @@
 -- What the pass makes of a rule's answers, for a sheet. Assumes nothing.
-use Rattle.std.specs.Prelude.{ℕ, Bool, List, [], ◌∷◌}
+use Rattle.std.specs.Prelude.{◌≡◌, ℕ, Bool, true, false, List, [], ◌∷◌}
 use Rattle.model.specs.declared.Exchange.{Exchange}
-use Rattle.model.specs.Pass.{starts, screened, asks_need, asks_ahead, asks_disks, asks_all}
+use Rattle.model.specs.Pass.{starts, screened, asks_need, asks_ahead, asks_disks, asks_all, can_serve, turn, Course}
 use Rattle.model.specs.Rules.{Rule}
 use Rattle.model.specs.Sheet.{Sheet}
-use Rattle.model.specs.Timetable.{Side}
+use Rattle.model.specs.Timetable.{Side, Act, Serve, Wait}
 use Rattle.model.specs.Verdict.{State}
 use Rattle.model.specs.View.{Option, None, Some, View}
 
@@ -26,7 +26,24 @@ disks_for side sheet rule n d s = asks_disks side sheet.rack.homes sheet.rack.fr
 abbrev pub all_for : Side → Sheet → Rule → State → State
 all_for side sheet rule s = asks_all side sheet.rack.homes sheet.rack.frames sheet.rack.fetch sheet.requests rule s
 
+abbrev pub can_serve_for : Side → Sheet → State → Bool
+can_serve_for side sheet s = can_serve side sheet.rack.homes sheet.rack.frames sheet.rack.fetch sheet.requests s
+
+-- one boundary and its step
+abbrev pub turn_for : Side → Sheet → Rule → Course → Course
+turn_for side sheet rule c = turn side sheet.rack.homes sheet.rack.frames sheet.rack.fetch sheet.requests rule c
+
 -- an exchange, if there is one
 abbrev pub listed : Option Exchange → List Exchange
 listed None = []
 listed (Some x) = x ∷ []
+
+-- each of some exchanges starts at a boundary
+abbrev pub AllAt : ℕ → List Exchange → Type 0
+AllAt t [] = Unit {0}
+AllAt t (x ∷ xs) = (x.start ≡ t) × AllAt t xs
+
+-- what a step does that serves, or does not
+abbrev pub act_of : Bool → Act
+act_of true = Serve
+act_of false = Wait

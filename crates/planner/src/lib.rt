@@ -11,8 +11,10 @@ mod demand;
 mod finding;
 mod opening;
 mod rule;
+mod scribe;
 mod seeing;
 mod starting;
+mod turning;
 mod uses;
 mod view;
 

@@ -3,13 +3,14 @@ ghost use Rattle.std.specs.Prelude.{◌≡◌, ◌∷◌, [], ◌<◌, length, B
 ghost use Rattle.model.specs.Pass.{screened};
 ghost use Rattle.plan.specs.Headings.{side_of};
 ghost use Rattle.sheet.specs.Sheets.{meant};
-ghost use Rattle.planner.specs.Asked.{starts_for, screened_for, need_for, ahead_for, listed};
+ghost use Rattle.planner.specs.Asked.{starts_for, screened_for, need_for, ahead_for, all_for, listed};
 ghost use Rattle.planner.specs.Boards.{state_of};
-ghost use Rattle.planner.specs.Courses.{Starts};
+ghost use Rattle.planner.specs.Courses.{Starts, Asks};
 ghost use Rattle.planner.specs.Views.{seen_of, shows};
 
 use crate::course::Course;
 use crate::rule::Rule;
+use crate::scribe::{Scribe, note};
 use crate::view::View;
 use model::Exchange;
 
@@ -29,7 +30,7 @@ impl View<'_> {
 impl Course<'_> {
     // What a rule sees.
     #[tactic(auto, unfolding(crate::specs::Views::shows))]
-    fn view(&self) -> View<'_>
+    pub(crate) fn view(&self) -> View<'_>
         ensures { shows result ≡ seen_of (side_of self.now.heading) (meant self.now.sheet) (state_of self.now.board) }
     {
         View {
@@ -76,5 +77,18 @@ impl Course<'_> {
             return None;
         }
         Some(self.start(brings, sends))
+    }
+
+    // All that starts at a boundary: need's answer, then ahead's by rising disk.
+    pub(crate) fn ask<R: Rule, W: Scribe>(&mut self, rule: &R, scribe: &mut W)
+        requires { self.old.board.position < length (meant self.old.sheet).requests }
+        ensures { Asks self.old self.new (λ side sheet s. all_for side sheet (R.answers rule.now) s) (W.holds scribe.old) (W.holds scribe.new) }
+    {
+        let exchange = self.ask_need(rule);
+        note(scribe, exchange);
+        for disk in 0..self.board.places.disks() {
+            let exchange = self.ask_ahead(rule, disk);
+            note(scribe, exchange);
+        }
     }
 }

@@ -1,5 +1,6 @@
 use Rattle.std.proofs.Common.{◌≡◌, ℕ, ◌+◌, set, subst, refl, ap, ◌∙◌}
 use Rattle.model.specs.Sheet.{Rack}
+use Rattle.model.specs.declared.Exchange.{Exchange}
 use Rattle.model.specs.declared.Mark.TheVariants.{Away, Here}
 use Rattle.model.specs.View.{View, disk_of}
 use Rattle.plan.specs.Headings.{side_of}
@@ -23,6 +24,7 @@ returns c =
       sheet = refl;
       position = c.start.ensures.position;
       boundary = c.start.ensures.boundary;
+      now = (ap (λ (x : Exchange). x.start) c.start.ensures.exchange, tt);
       comes = λ s h. rw c.start.ensures.exchange (begins side sheet old c.start.new.self p q (record {
         position = c.start.ensures.position;
         boundary = c.start.ensures.boundary;

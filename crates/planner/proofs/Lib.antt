@@ -3,7 +3,9 @@ pub mod Best
 pub mod Indexing
 pub mod Lowest
 pub mod Marking
+pub mod Placing
 pub mod Rising
 pub mod Shown
 pub mod Soonest
 pub mod Turned
+pub mod Whole

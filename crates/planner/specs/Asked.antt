@@ -1,11 +1,11 @@
 -- What the pass makes of a rule's answers, for a sheet. Assumes nothing.
 use Rattle.std.specs.Prelude.{◌≡◌, ℕ, Bool, true, false, List, [], ◌∷◌}
 use Rattle.model.specs.declared.Exchange.{Exchange}
-use Rattle.model.specs.Pass.{starts, screened, asks_need, asks_ahead, asks_disks, asks_all, can_serve, turn, Course}
+use Rattle.model.specs.Pass.{starts, screened, asks_need, asks_ahead, asks_disks, asks_all, can_serve, turn, opens, Course}
 use Rattle.model.specs.Rules.{Rule}
 use Rattle.model.specs.Sheet.{Sheet}
 use Rattle.model.specs.Timetable.{Side, Act, Serve, Wait}
-use Rattle.model.specs.Verdict.{State}
+use Rattle.model.specs.Verdict.{State, begin}
 use Rattle.model.specs.View.{Option, None, Some, View}
 
 abbrev pub starts_for : Side → Sheet → State → ℕ → ℕ → State
@@ -28,6 +28,10 @@ all_for side sheet rule s = asks_all side sheet.rack.homes sheet.rack.frames she
 
 abbrev pub can_serve_for : Side → Sheet → State → Bool
 can_serve_for side sheet s = can_serve side sheet.rack.homes sheet.rack.frames sheet.rack.fetch sheet.requests s
+
+-- the state after an opening
+abbrev pub opens_for : Side → Sheet → List ℕ → State
+opens_for side sheet o = opens side sheet.rack.homes sheet.rack.frames sheet.rack.fetch sheet.requests o begin
 
 -- one boundary and its step
 abbrev pub turn_for : Side → Sheet → Rule → Course → Course

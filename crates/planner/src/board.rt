@@ -1,6 +1,10 @@
 ghost use Rattle.std.specs.Prelude.{◌≡◌, ◌+◌, ◌≤◌, slice_set};
 ghost use Rattle.model.specs.PlanBytes.{plan_limit};
 ghost use Rattle.model.specs.declared.Mark.TheVariants.{Away, Here};
+ghost use Rattle.model.specs.Sheet.{Sheet};
+ghost use Rattle.model.specs.Timetable.{Side};
+ghost use Rattle.planner.specs.Asked.{opens_for};
+ghost use Rattle.planner.specs.Boards.{Stands};
 
 use model::Exchange;
 use plan::Places;
@@ -14,6 +18,23 @@ pub(crate) struct Board {
 }
 
 impl Board {
+    // Before the first step: the blocks of the opening are here, all others away.
+    pub(crate) fn new(opening: &[u16]) -> Self
+        ensures stands { (side : Side) (sheet : Sheet) → Stands result (opens_for side sheet opening.now) }
+        ensures position { result.position ≡ 0 }
+        ensures boundary { result.boundary ≡ 0 }
+    {
+        let mut places = Places::new();
+        for &block in opening {
+            places.arrive(block, 0);
+        }
+        Board {
+            position: 0,
+            boundary: 0,
+            places,
+        }
+    }
+
     // An exchange starts: its block out is gone from this step on, its block in is here once it lands, and until then its disk is busy.
     pub(crate) fn start(&mut self, brings: u16, sends: u16, disk: u8, fetch: u8) -> Exchange
         requires { self.old.boundary ≤ plan_limit }

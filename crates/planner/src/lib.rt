@@ -10,6 +10,7 @@ mod course;
 mod demand;
 mod finding;
 mod opening;
+mod planning;
 mod rule;
 mod scribe;
 mod seeing;

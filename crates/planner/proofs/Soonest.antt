@@ -25,7 +25,7 @@ module _ (v : View) (p : ℕ → Bool) where
           go (inl i) = absurd (both_ways (p n) e (subst (λ (x : ℕ). p x ≡ true) i f))
           go (inr i) = h.least b (omega arith) f
 
-  pub soonest_more : (n k : ℕ) → Soonest v p n k → p n ≡ true → Soonest v p (n + 1) (min k (next_use v n))
+  soonest_more : (n k : ℕ) → Soonest v p n k → p n ≡ true → Soonest v p (n + 1) (min k (next_use v n))
   soonest_more n k h e = record { within = omega (arith, h.within); least = least; from = go (cases_lt (next_use v n) k) }
     where
       least : (b : ℕ) → b < n + 1 → p b ≡ true → min k (next_use v n) ≤ next_use v b
@@ -38,6 +38,19 @@ module _ (v : View) (p : ℕ → Bool) where
       go : (next_use v n < k) ⊎ (k ≤ next_use v n) → (min k (next_use v n) ≡ length v.requests) ⊎ ((b : ℕ) × (p b ≡ true) × (min k (next_use v n) ≡ next_use v b))
       go (inl l) = inr (n, e, omega arith)
       go (inr l) = let m : min k (next_use v n) ≡ k = omega arith in rw m h.from
+
+  pub soonest_later : (n k : ℕ) → Soonest v p n k → k ≤ next_use v n → Soonest v p (n + 1) k
+  soonest_later n k h l = record { within = h.within; least = least; from = h.from }
+    where
+      least : (b : ℕ) → b < n + 1 → p b ≡ true → k ≤ next_use v b
+      least b m f = go (cases_eq b n)
+        where
+          go : (b ≡ n) ⊎ (b ≡ n → ⊥) → k ≤ next_use v b
+          go (inl i) = rw i l
+          go (inr i) = h.least b (omega arith) f
+
+  pub soonest_sooner : (n k : ℕ) → Soonest v p n k → p n ≡ true → next_use v n < k → Soonest v p (n + 1) (next_use v n)
+  soonest_sooner n k h e l = let m : min k (next_use v n) ≡ next_use v n = omega arith in subst (λ (x : ℕ). Soonest v p (n + 1) x) m (soonest_more n k h e)
 
   pub soonest_all : (n k : ℕ) → n ≡ blocks v → v.position ≤ length v.requests → ((i : ℕ) → i < length v.requests → get_or v.requests i 0 < blocks v) → Soonest v p n k → k ≡ first_from v p
   soonest_all n k all reached known h = (firsts_exact v p reached).only k (record { from = from; within = h.within; passes = passes; none_before = none_before })

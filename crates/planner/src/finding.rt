@@ -39,10 +39,14 @@ impl View<'_> {
     {
         let mut first = self.sheet.len();
         for block in 0..self.blocks() {
+            let next = self.next_use(block);
+            if next >= first {
+                continue;
+            }
             if !passes(block) {
                 continue;
             }
-            first = first.min(self.next_use(block));
+            first = next;
         }
         self.sheet.request(first)
     }

@@ -74,7 +74,7 @@ impl<'a> View<'a> {
     pub fn may_go_out(&self, block: u16) -> bool
         ensures { result ≡ may_go_out (shows self.now) block }
     {
-        block < self.blocks() && self.board.places.is_here(block, self.board.boundary)
+        self.board.places.is_here(block, self.board.boundary) && block < self.blocks()
     }
 
     // Whether a disk carries nothing.

@@ -1,4 +1,5 @@
-// The block that a view finds for a rule: of those that pass a test the one that is used next, or last.
+// The block that a view finds for a rule: of those that pass a test the one that is used next, or last. Both look at each block once and at
+// no request; a loop over the frames, or a first missing block kept for each disk, would tell the same sooner, and is not as plain.
 ghost use Rattle.std.specs.Prelude.{◌≡◌, ℕ, Bool};
 ghost use Rattle.model.specs.View.{better, blocks, first_from, first_missing, first_missing_on, latest, latest_of, latest_on, lawful, next_use, requested_at};
 ghost use Rattle.planner.specs.Tests.{Tells};

@@ -1,4 +1,4 @@
-// Planning: what a choosing rule sees, what it answers, and the pass that asks it at every boundary and writes the plan.
+// Planning: what a choosing rule sees, what it answers, and the pass that asks it at every boundary and tells a scribe.
 
 #![tactic(auto)]
 

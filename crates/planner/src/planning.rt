@@ -41,7 +41,8 @@ pub(crate) fn plan<R: Rule, W: Scribe>(
 )
     requires fit { FitOpening (meant sheet).rack.homes (meant sheet).rack.frames opening.now }
     requires empty { W.holds scribe.old [] [] }
-    ensures { W.holds scribe.new (plan_over (side_of heading) (meant sheet.entry) (R.answers rule.now) opening.now).exchanges (plan_over (side_of heading) (meant sheet.entry) (R.answers rule.now) opening.now).acts }
+    ensures told { W.holds scribe.new (plan_over (side_of heading) (meant sheet.entry) (R.answers rule.now) opening.now).exchanges (plan_over (side_of heading) (meant sheet.entry) (R.answers rule.now) opening.now).acts }
+    ensures kept { W.keeps scribe.old scribe.new }
 {
     let mut course = Course::new(heading, sheet, opening);
     while course.board.position < sheet.len() {

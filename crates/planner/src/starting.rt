@@ -82,7 +82,8 @@ impl Course<'_> {
     // All that starts at a boundary: need's answer, then ahead's by rising disk.
     pub(crate) fn ask<R: Rule, W: Scribe>(&mut self, rule: &R, scribe: &mut W)
         requires { self.old.board.position < length (meant self.old.sheet).requests }
-        ensures { Asks self.old self.new (λ side sheet s. all_for side sheet (R.answers rule.now) s) (W.holds scribe.old) (W.holds scribe.new) }
+        ensures asks { Asks self.old self.new (λ side sheet s. all_for side sheet (R.answers rule.now) s) (W.holds scribe.old) (W.holds scribe.new) }
+        ensures kept { W.keeps scribe.old scribe.new }
     {
         let exchange = self.ask_need(rule);
         note(scribe, exchange);

@@ -52,7 +52,8 @@ impl Course<'_> {
     pub(crate) fn turn<R: Rule, W: Scribe>(&mut self, rule: &R, scribe: &mut W)
         requires within { self.old.board.position < length (meant self.old.sheet).requests }
         requires few { self.old.board.boundary < plan_limit }
-        ensures { Turns self.old self.new (λ side sheet c. turn_for side sheet (R.answers rule.now) c) (W.holds scribe.old) (W.holds scribe.new) }
+        ensures turns { Turns self.old self.new (λ side sheet c. turn_for side sheet (R.answers rule.now) c) (W.holds scribe.old) (W.holds scribe.new) }
+        ensures kept { W.keeps scribe.old scribe.new }
     {
         self.ask(rule, scribe);
         let serves = self.can_serve();

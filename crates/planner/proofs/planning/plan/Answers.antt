@@ -6,8 +6,11 @@ use Rattle.planner.proofs.planning.plan.Goals as goal
 
 pub loop-course-init : goal.loop-course-init
 loop-course-init g c =
-    sets_out c.args.heading c.args.sheet (g.R.Rule.answers c.args.rule.now) (g.met.R.Rule.meets c.args.rule.now) c.args.opening.now c.requires.fit c.new-course.result (g.W.Scribe.holds c.args.scribe.now)
-    c.new-course.ensures.heading c.new-course.ensures.sheet c.new-course.ensures.boundary c.new-course.ensures.stands c.requires.empty
+    record {
+      goes = sets_out c.args.heading c.args.sheet (g.R.Rule.answers c.args.rule.now) (g.met.R.Rule.meets c.args.rule.now) c.args.opening.now c.requires.fit c.new-course.result (g.W.Scribe.holds c.args.scribe.now)
+          c.new-course.ensures.heading c.new-course.ensures.sheet c.new-course.ensures.boundary c.new-course.ensures.stands c.requires.empty;
+      kept = g.met.W.Scribe.stays c.args.scribe.now;
+    }
 
 pub turn-requires : goal.turn-requires
 turn-requires g c =
@@ -15,9 +18,9 @@ turn-requires g c =
     let law = g.met.R.Rule.meets c.args.rule.now in
     let k = c.loop-course.course in
     let left : k.board.position < length (meant c.args.sheet).requests = omega arith in
-    let early = in_time c.args.heading c.args.sheet rule law c.args.opening.now c.requires.fit k (g.W.Scribe.holds c.loop-course.scribe) c.loop-course.invariant left in
+    let early = in_time c.args.heading c.args.sheet rule law c.args.opening.now c.requires.fit k (g.W.Scribe.holds c.loop-course.scribe) c.loop-course.invariant.goes left in
     record {
-      within = subst (λ (s : Lent). k.board.position < length (meant s).requests) (sym c.loop-course.invariant.plans) left;
+      within = subst (λ (s : Lent). k.board.position < length (meant s).requests) (sym c.loop-course.invariant.goes.plans) left;
       few = omega (arith, early, fuel_few c.args.heading c.args.sheet rule law c.args.opening.now c.requires.fit);
     }
 
@@ -25,19 +28,22 @@ pub loop-course-smaller : goal.loop-course-smaller
 loop-course-smaller g c =
     let k = c.loop-course.course in
     let left : k.board.position < length (meant c.args.sheet).requests = omega arith in
-    fewer (fuel_for (meant c.args.sheet)) k.board.boundary c.turn.new.self.board.boundary c.turn.ensures.boundary
-    (in_time c.args.heading c.args.sheet (g.R.Rule.answers c.args.rule.now) (g.met.R.Rule.meets c.args.rule.now) c.args.opening.now c.requires.fit k (g.W.Scribe.holds c.loop-course.scribe) c.loop-course.invariant left)
+    fewer (fuel_for (meant c.args.sheet)) k.board.boundary c.turn.new.self.board.boundary c.turn.ensures.turns.boundary
+    (in_time c.args.heading c.args.sheet (g.R.Rule.answers c.args.rule.now) (g.met.R.Rule.meets c.args.rule.now) c.args.opening.now c.requires.fit k (g.W.Scribe.holds c.loop-course.scribe) c.loop-course.invariant.goes left)
 
 pub loop-course-preserved : goal.loop-course-preserved
 loop-course-preserved g c =
     let k = c.loop-course.course in
     let left : k.board.position < length (meant c.args.sheet).requests = omega arith in
-    turns_on c.args.heading c.args.sheet (g.R.Rule.answers c.args.rule.now) (g.met.R.Rule.meets c.args.rule.now) c.args.opening.now c.requires.fit k c.turn.new.self (g.W.Scribe.holds c.loop-course.scribe) (g.W.Scribe.holds c.turn.new.scribe)
-    c.loop-course.invariant left c.turn.ensures
+    record {
+      goes = turns_on c.args.heading c.args.sheet (g.R.Rule.answers c.args.rule.now) (g.met.R.Rule.meets c.args.rule.now) c.args.opening.now c.requires.fit k c.turn.new.self (g.W.Scribe.holds c.loop-course.scribe) (g.W.Scribe.holds c.turn.new.scribe)
+          c.loop-course.invariant.goes left c.turn.ensures.turns;
+      kept = g.met.W.Scribe.goes_on _ _ _ c.loop-course.invariant.kept c.turn.ensures.kept;
+    }
 
-pub returns : goal.returns
-returns g c =
+pub returns-clause-told : goal.returns-clause-told
+returns-clause-told g c =
     let k = c.loop-course.course in
-    let most : k.board.position ≤ length (meant c.args.sheet).requests = subst (λ (s : Lent). k.board.position ≤ length (meant s).requests) c.loop-course.invariant.plans k.reached in
+    let most : k.board.position ≤ length (meant c.args.sheet).requests = subst (λ (s : Lent). k.board.position ≤ length (meant s).requests) c.loop-course.invariant.goes.plans k.reached in
     let all : k.board.position ≡ length (meant c.args.sheet).requests = omega arith in
-    arrives c.args.heading c.args.sheet (g.R.Rule.answers c.args.rule.now) (g.met.R.Rule.meets c.args.rule.now) c.args.opening.now c.requires.fit k (g.W.Scribe.holds c.loop-course.scribe) c.loop-course.invariant all
+    arrives c.args.heading c.args.sheet (g.R.Rule.answers c.args.rule.now) (g.met.R.Rule.meets c.args.rule.now) c.args.opening.now c.requires.fit k (g.W.Scribe.holds c.loop-course.scribe) c.loop-course.invariant.goes all

@@ -93,6 +93,7 @@ impl Writer<'_> {
         let rack = sheet.rack();
         let records = &slots[0..ending.counts.exchanges];
         let rewind = Rewind::new(plan, rack, records);
+        // a cast, which at most 1,024 blocks survive: a conversion adds a step that the proof would have to name
         self.open(ending, rack.blocks() as u16);
         self.write_steps(rewind, ending.counts.steps);
         self.write(Command::Ends);

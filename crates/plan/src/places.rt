@@ -72,7 +72,7 @@ impl Places {
         ensures disks { result ≡ length self.now.idle }
         ensures most { result ≡ most_disks }
     {
-        self.idle.len() as u8
+        u8::try_from(self.idle.len()).unwrap()
     }
 
     // Whether there is such a disk and it carries nothing at a boundary.

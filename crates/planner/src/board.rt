@@ -6,7 +6,7 @@ ghost use Rattle.model.specs.Timetable.{Side};
 ghost use Rattle.planner.specs.Asked.{opens_for};
 ghost use Rattle.planner.specs.Boards.{Stands};
 
-use model::Exchange;
+use model::{Exchange, Mark};
 use plan::Places;
 
 // How far a pass has come, and where blocks and disks are.
@@ -26,7 +26,7 @@ impl Board {
     {
         let mut places = Places::new();
         for &block in opening {
-            places.arrive(block, 0);
+            places.set(block, Mark::Here(0));
         }
         Board {
             position: 0,
@@ -46,8 +46,8 @@ impl Board {
     {
         let start = self.boundary;
         let landing = start + u32::from(fetch);
-        self.places.leave(sends, start + 1);
-        self.places.arrive(brings, landing);
+        self.places.set(sends, Mark::Away(start + 1));
+        self.places.set(brings, Mark::Here(landing));
         self.places.occupy(disk, landing);
         Exchange {
             brings,

@@ -52,6 +52,7 @@ impl Opening {
     {
         let chosen = Chosen::usual(sheet);
         let mut opening = Opening::new();
+        // a cast, which at most 1,024 blocks survive: a conversion adds a step that the proof would have to name
         for block in 0..sheet.rack().blocks() as u16 {
             if !chosen.has(block) {
                 continue;

@@ -34,6 +34,7 @@ impl NextUses {
     {
         let block = usize::from(block);
         self.after[position] = self.next[block];
+        // a cast, which a position below 4,096 survives: a conversion adds a step that the proof would have to name
         self.next[block] = position as u16;
     }
 
@@ -58,6 +59,7 @@ impl NextUses {
     fn none(sheet: Sheet) -> Self
         ensures { Indexes (meant sheet.entry).requests (length (meant sheet.entry).requests) result.next result.after }
     {
+        // a cast, which at most 4,096 requests survive: a conversion adds a step that the proof would have to name
         NextUses::blank(sheet.len() as u16)
     }
 

@@ -75,8 +75,7 @@ impl Chosen {
         ensures { Marks result.is result.count (first_of (meant sheet.entry) ((meant sheet.entry).requests ++ each (λ block. block) (length (meant sheet.entry).rack.homes))) }
     {
         let mut chosen = Chosen::requested(sheet);
-        // a cast, which at most 1,024 blocks survive: a conversion adds a step that the proof would have to name
-        for block in 0..sheet.rack().blocks() as u16 {
+        for block in 0..u16::try_from(sheet.rack().blocks()).unwrap() {
             chosen.add(block, sheet.rack().frames());
         }
         chosen

@@ -42,8 +42,7 @@ impl<'a> View<'a> {
         ensures blocks { result ≡ blocks (shows self.now) }
         ensures few { result ≤ 1024 }
     {
-        // a cast, which at most 1,024 blocks survive: a conversion adds a step that the proof would have to name
-        self.sheet.rack().blocks() as u16
+        u16::try_from(self.sheet.rack().blocks()).unwrap()
     }
 
     // The block at the position, 0 where all requests are served.

@@ -34,8 +34,7 @@ impl NextUses {
     {
         let block = usize::from(block);
         self.after[position] = self.next[block];
-        // a cast, which a position below 4,096 survives: a conversion adds a step that the proof would have to name
-        self.next[block] = position as u16;
+        self.next[block] = u16::try_from(position).unwrap();
     }
 
     // A block's use at a position lies behind.

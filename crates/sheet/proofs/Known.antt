@@ -1,5 +1,5 @@
 -- Every request of a sheet, in its own order, is of a block that there is, and there are at most 4,096 of them. Assumes nothing.
-use Rattle.std.proofs.Common.{◌≡◌, ℕ, ◌<◌, ◌≤◌, Bool, true, false, cond, List, reverse, length, get_or, subst, sym, arith}
+use Rattle.std.proofs.Common.{ℕ, ◌<◌, ◌≤◌, Bool, true, false, cond, List, reverse, length, get_or, subst, sym, arith}
 use Rattle.std.proofs.lemmas.List.{get_or-reverse}
 use Rattle.sheet.specs.Sheets.{meant}
 use Rattle.sheet.specs.declared.view.Sheet.{Sheet as Lent}

@@ -22,17 +22,17 @@ pub enum Stage {
 }
 
 impl Stage {
-    // Whether a command with this letter is in place.
+    // Whether a command with this letter is in place. By letter, as commands are taken: pairs of stage and letter would be told apart
+    // once more for every command of a long sheet.
     fn takes(self, letter: Letter) -> bool
         ensures { result ≡ takes self (byte_of letter) }
     {
-        matches!(
-            (self, letter),
-            (Stage::Name, Letter::Name)
-                | (Stage::Geometry, Letter::Geometry)
-                | (Stage::Blocks, Letter::Disk | Letter::Request | Letter::End)
-                | (Stage::Requests, Letter::Request | Letter::End)
-        )
+        match letter {
+            Letter::Name => self == Stage::Name,
+            Letter::Geometry => self == Stage::Geometry,
+            Letter::Disk => self == Stage::Blocks,
+            Letter::Request | Letter::End => matches!(self, Stage::Blocks | Stage::Requests),
+        }
     }
 
     // The letter that a byte is, if a command that begins with it is in place.

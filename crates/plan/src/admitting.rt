@@ -103,7 +103,9 @@ impl Track {
         Ok(command)
     }
 
-    // The command at the reader's place, if it may stand there.
+    // The command at the reader's place, if it may stand there. Every command of a plan goes through here: called, and not put in its
+    // caller's place, it would hand its answer on through memory each time.
+    #[inline(always)]
     pub(crate) fn admit(&self, reader: PlanReader) -> Result<Command, Cause>
         ensures { result ≡ admitted_of self.now.phase reader.entry.bytes.total reader.entry.bytes.rest.now }
     {

@@ -50,6 +50,15 @@ impl Cause for SheetCause {
     }
 }
 
+impl SheetCause {
+    // The number by which the cause is told, for those who do not import `Cause`.
+    pub fn number(&self) -> u8
+        ensures { result ≡ number_of self.now }
+    {
+        Cause::number(self)
+    }
+}
+
 impl From<ListFull> for SheetCause {
     ghost from_gives = { λ _ r. r ≡ NoSlotLeft };
 

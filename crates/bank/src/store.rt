@@ -6,7 +6,7 @@ ghost use Rattle.bank.specs.Stored.{stored};
 
 use crate::limits::BLOCK;
 
-pub trait Store {
+pub(crate) trait Store {
     // each block's bytes, in number order
     ghost contents: { Self → List (List ℕ) };
 

@@ -1,15 +1,15 @@
 -- The places of a row, and what is folded together over them.
-use Rattle.std.proofs.Common.{◌≡◌, ℕ, ◌+◌, ◌-◌, ◌*◌, ◌/◌, ◌%◌, ◌<◌, ◌≤◌, Bool, true, false, cond, eqb, ltb, ◌⊎◌, List, length, slice_get, get_or, drop, Some, sym, refl, ap, ◌∙◌, inl, inr, add-mul, one-mul, add-one, arith}
+use Rattle.std.proofs.Common.{◌≡◌, ℕ, ◌+◌, ◌-◌, ◌*◌, ◌/◌, ◌%◌, ◌<◌, ◌≤◌, Bool, true, false, cond, eqb, ltb, ◌⊎◌, List, [], length, slice_get, get_or, drop, Some, sym, refl, ap, ◌∙◌, inl, inr, add-mul, one-mul, add-one, arith}
 use lib.Bits.{bit_xor, xor_zero_r}
 use Rattle.std.proofs.lemmas.Nat.{div-add-mod', le-div, mod-mul-add}
 use Rattle.std.proofs.lemmas.List.FromFn.{get_or-map-range_with_len}
 use Rattle.std.proofs.lemmas.List.{get_or-take, get_or-drop, ext_get_or}
 use Rattle.std.proofs.lemmas.Option.{slice_get-get_or}
-use Rattle.std.proofs.lemmas.Bool.{cond-true, cond-false, lt-ltb, le-ltb, cases_lt}
+use Rattle.std.proofs.lemmas.Bool.{cond-true, cond-false, lt-ltb, le-ltb, cases_lt, ne_eqb}
 use Rattle.bank.specs.declared.layout.Layout.{Layout}
-use Rattle.bank.specs.Array.{spread}
-use Rattle.bank.specs.ArraySound.{length_spread, get_or_spread, length_restored_block}
-use Rattle.bank.specs.Parity.{rows_of, byte_of, place_byte, place_folded, restored_byte, restored_block}
+use Rattle.bank.specs.Array.{spread, rebuilt_blocks}
+use Rattle.bank.specs.ArraySound.{length_spread, get_or_spread, get_or_rebuilt_blocks, length_restored_block}
+use Rattle.bank.specs.Parity.{rows_of, byte_of, place_byte, place_folded, restored_byte, restored_block, rebuilt_block}
 use Rattle.bank.specs.Recording.{block_at}
 
 module _ (bytes : List ℕ) (l : Layout) (r i j : ℕ) where
@@ -71,3 +71,9 @@ pub slice_get_spread : (l : Layout) (b : ℕ) → b < l.blocks → slice_get (sp
 slice_get_spread l b h =
     let count = length_spread l in
     slice_get-get_or (spread l) b 0 (omega arith) ∙ ap Some (get_or_spread l b h)
+
+-- a block that did not lie on the lost disk is as it stands in the image
+pub rebuilt_kept :
+    (bytes : List ℕ) (l : Layout) (b : ℕ) → b < l.blocks → (b % l.disks ≡ l.lost → ⊥) → get_or (rebuilt_blocks bytes l) b [] ≡ block_at bytes b
+unfolding rebuilt_block
+rebuilt_kept bytes l b h off = get_or_rebuilt_blocks bytes l b h ∙ cond-false _ _ _ (ne_eqb (b % l.disks) l.lost off)

@@ -1,5 +1,5 @@
 // A bank of eight disks, whatever holds its blocks.
-ghost use Rattle.std.specs.Prelude.{◌≡◌, length};
+ghost use Rattle.std.specs.Prelude.{◌≡◌, ◌<◌, ◌≤◌, [], ◌++◌, length, drop, slice_index_or};
 ghost use Rattle.bank.specs.Calls.{granted};
 ghost use Rattle.bank.specs.Meaning.{all_idle, empty_bank};
 ghost use Rattle.bank.specs.Stored.{stored, stored_sound, held};
@@ -50,6 +50,19 @@ impl<S: Store + Drop> DiskBank<S> {
     }
 }
 
+impl<S: Store> DiskBank<S> {
+    // Writes a block's bytes over the first of a buffer that has room for them.
+    fn deliver(&self, block: u16, buffer: &mut [u8])
+        requires there { block < length (S.places self.now.store) }
+        requires room { 512 ≤ length buffer.old }
+        ensures { buffer.new ≡ slice_index_or (S.contents self.now.store) block [] ++ drop 512 buffer.old }
+    {
+        if let Some(into) = buffer.first_chunk_mut::<BLOCK>() {
+            self.store.read(block, into);
+        }
+    }
+}
+
 impl<S: Store> Bank for DiskBank<S> {
     ghost meaning = { λ b. stored (S.contents b.store) (S.places b.store) b.drives.fetch b.drives.list };
 
@@ -84,8 +97,7 @@ impl<S: Store> Bank for DiskBank<S> {
     #[tactic(auto, unfolding(crate::specs::Calls::collect_answer, crate::specs::Calls::collect_after, crate::specs::Calls::collect_buffer, crate::specs::Calls::ready_on))]
     fn collect(&mut self, disk: u8, buffer: &mut [u8]) -> Result<(), BankFault> {
         let block = self.drives.collect(disk, buffer.len())?;
-        let bytes = self.store.block(block);
-        buffer[0..BLOCK].copy_from_slice(&bytes);
+        self.deliver(block, buffer);
         Ok(())
     }
 }

@@ -46,7 +46,7 @@ impl Store for Recording<'_> {
     }
 
     #[tactic(auto, using(crate::specs::RecordingSound::get_or_blocks_of))]
-    fn block(&self, block: u16) -> [u8; BLOCK] {
-        *block_of(self.bytes, usize::from(block))
+    fn read(&self, block: u16, into: &mut [u8; BLOCK]) {
+        *into = *block_of(self.bytes, usize::from(block));
     }
 }

@@ -59,13 +59,13 @@ impl Store for Array<'_> {
     }
 
     // As it stands in the image, or rebuilt where it lay on the lost disk.
-    #[tactic(auto, using(crate::specs::ArraySound::length_spread, crate::specs::ArraySound::get_or_rebuilt_blocks, crate::proofs::Places::row_below), unfolding(crate::specs::Parity::rebuilt_block))]
-    fn block(&self, block: u16) -> [u8; BLOCK] {
+    #[tactic(auto, using(crate::specs::ArraySound::length_spread, crate::specs::ArraySound::get_or_rebuilt_blocks, crate::proofs::Places::row_below, crate::proofs::Places::rebuilt_kept), unfolding(crate::specs::Parity::rebuilt_block))]
+    fn read(&self, block: u16, into: &mut [u8; BLOCK]) {
         let disks = u16::from(self.layout.disks);
         if block % disks == u16::from(self.layout.lost) {
-            self.restored(block / disks)
+            self.restore(block / disks, into);
         } else {
-            *block_of(self.image, usize::from(block))
+            *into = *block_of(self.image, usize::from(block));
         }
     }
 }

@@ -28,8 +28,8 @@ pub(crate) trait Store {
     fn disk(&self, block: u16) -> Option<u8>
         ensures { result ≡ slice_get (places self.now) block };
 
-    // A block's bytes, by value: a buffer of the caller's would have to be asked for its length.
-    fn block(&self, block: u16) -> [u8; BLOCK]
+    // Writes a block's bytes where they are wanted: a block that was had by value would be copied once more.
+    fn read(&self, block: u16, into: &mut [u8; BLOCK])
         requires { block < length (places self.now) }
-        ensures { result ≡ slice_index_or (contents self.now) block [] };
+        ensures { into.new ≡ slice_index_or (contents self.now) block [] };
 }

@@ -7,17 +7,16 @@ use crate::limits::BLOCK;
 use crate::rebuilt::Array;
 
 impl Array<'_> {
-    // The lost disk's block of a row.
-    pub(crate) fn restored(&self, row: u16) -> [u8; BLOCK]
+    // Writes the lost disk's block of a row.
+    pub(crate) fn restore(&self, row: u16, block: &mut [u8; BLOCK])
         requires { row < rows_of self.now.layout }
-        ensures { result ≡ restored_block self.now.image.now self.now.layout row }
+        ensures { block.new ≡ restored_block self.now.image.now self.now.layout row }
     {
         let parity = usize::from(self.layout.blocks) + usize::from(row);
-        let mut block = *block_of(self.image, parity);
+        *block = *block_of(self.image, parity);
         for place in 0..self.layout.disks {
-            self.fold_place(row, place, &mut block);
+            self.fold_place(row, place, block);
         }
-        block
     }
 
     // Folds the block at one place of a row into a block. The lost disk's place is passed over, and so are the

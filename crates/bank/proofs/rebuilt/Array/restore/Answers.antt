@@ -2,7 +2,7 @@ use Rattle.std.proofs.Common.{◌≡◌, ◌+◌, length, get_or, sym, ap, ◌�
 use Rattle.bank.specs.Parity.{byte_of, place_folded, restored_byte}
 use Rattle.bank.specs.RecordingSound.{length_block_at}
 use Rattle.bank.proofs.Places.{restored_more, restored_is, get_or_block_at}
-use Rattle.bank.proofs.rebuilt.Array.restored.Goals as goal
+use Rattle.bank.proofs.rebuilt.Array.restore.Goals as goal
 
 pub loop-place-init : goal.loop-place-init
 unfolding restored_byte

@@ -1,6 +1,6 @@
 use Rattle.std.proofs.Common.{◌≡◌, ℕ, ◌<◌, length, get_or}
 use Rattle.bank.specs.Parity.{restored_byte}
-use Rattle.bank.proofs.rebuilt.Array.restored.Given as goal
+use Rattle.bank.proofs.rebuilt.Array.restore.Given as goal
 
 -- the places passed are folded in
 abbrev pub invariant-loop-place : goal.invariant-loop-place

@@ -51,15 +51,14 @@ impl<S: Store + Drop> DiskBank<S> {
 }
 
 impl<S: Store> DiskBank<S> {
-    // Writes a block's bytes over the first of a buffer that has room for them.
+    // Writes a block's bytes over the first bytes of a buffer that has room for them.
     fn deliver(&self, block: u16, buffer: &mut [u8])
         requires there { block < length (S.places self.now.store) }
         requires room { 512 ≤ length buffer.old }
         ensures { buffer.new ≡ slice_index_or (S.contents self.now.store) block [] ++ drop 512 buffer.old }
     {
-        if let Some(into) = buffer.first_chunk_mut::<BLOCK>() {
-            self.store.read(block, into);
-        }
+        let into = buffer.first_chunk_mut::<BLOCK>().unwrap();
+        self.store.read(block, into);
     }
 }
 
